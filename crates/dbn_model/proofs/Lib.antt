@@ -1,2 +1,3 @@
 pub mod ContentLaws
+mod LineExamples
 pub mod RunLaws

@@ -1,6 +1,6 @@
 -- What is said of bytes that an object of the outside holds, where it tells them: `None` tells nothing.
 use Rattle.std.specs.Prelude.{◌≡◌, ℕ, ◌<◌, List, ◌++◌, length, Option, is_some}
-use Rattle.std.specs.Io.KnownBytes.{Appends, Consumes}
+use Rattle.std.specs.Io.KnownBytes.{Appends}
 
 -- what is told stays told, and what is untold stays untold
 abbrev pub SameTold : Option (List ℕ) → Option (List ℕ) → Type 0

@@ -1,5 +1,5 @@
 -- The lines of a text, and which of them are too long.
-use Rattle.std.specs.Prelude.{ℕ, Bool, List, [], ◌∷◌, length, map, cond, ◌==◌, nat_lt}
+use Rattle.std.specs.Prelude.{ℕ, List, [], ◌∷◌, length, map, cond, ◌==◌, nat_lt}
 use Rattle.std.specs.List.{slice_split}
 
 -- a line without its end, or a line that is too long
@@ -14,18 +14,14 @@ line_limit = 65536
 -- a last part without bytes is no line
 abbrev pub without_empty_end : List (List ℕ) → List (List ℕ)
 without_empty_end [] = []
-without_empty_end (part ∷ []) = if_empty part
-  where
-    if_empty : List ℕ → List (List ℕ)
-    if_empty [] = []
-    if_empty (byte ∷ bytes) = (byte ∷ bytes) ∷ []
-without_empty_end (part ∷ next ∷ parts) = part ∷ without_empty_end (next ∷ parts)
+without_empty_end ([] ∷ []) = []
+without_empty_end (part ∷ parts) = part ∷ without_empty_end parts
 
 -- one carriage return at the end is dropped
 abbrev pub without_return : List ℕ → List ℕ
 without_return [] = []
 without_return (byte ∷ []) = cond (byte == 13) [] (byte ∷ [])
-without_return (byte ∷ next ∷ bytes) = byte ∷ without_return (next ∷ bytes)
+without_return (byte ∷ bytes) = byte ∷ without_return bytes
 
 -- the bytes before each line feed, and those after the last one where there are any
 abbrev pub raw_lines : List ℕ → List (List ℕ)
