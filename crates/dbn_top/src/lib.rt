@@ -1,0 +1,4 @@
+//! The top call: a run of the engine over two sources, a sink and two disks.
+#![tactic(auto)]
+
+mod net;
