@@ -1,3 +1,4 @@
 pub mod ContentLaws
+pub mod LineLaws
 pub mod RunLaws
 mod WorkedExamples
