@@ -1,4 +1,6 @@
 pub mod ContentLaws
 pub mod LineLaws
+pub mod NetTextLaws
+pub mod NetTextReading
 pub mod RunLaws
 mod WorkedExamples

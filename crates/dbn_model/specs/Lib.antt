@@ -3,5 +3,6 @@ pub mod Commands
 pub mod Content
 pub mod Firing
 pub mod Lines
+pub mod NetText
 pub mod Nets
 pub mod Runs
