@@ -33,7 +33,7 @@ impl Net {
     }
 
     /// The number of the transition of that name.
-    fn transition_of(&self, name: &[u8]) -> Option<usize>
+    pub(crate) fn transition_of(&self, name: &[u8]) -> Option<usize>
         ensures { result ≡ nets.transition_of self.now name.now }
     {
         self.transitions
