@@ -1,0 +1,73 @@
+//! Standard input and standard output.
+
+ghost use Rattle.std.specs.Prelude.{None};
+
+use crate::sink::Sink;
+use crate::source::Source;
+use crate::trouble::Trouble;
+use std::io::{self, Print, Read, Write};
+
+/// A source over a reader of the runtime, such as standard input. It tells no bytes, and counts each error as a fault.
+#[derive(Drop)]
+pub struct StdSource<R: Read + Drop> {
+    reader: R,
+    faults: u64,
+}
+
+impl<R: Read + Drop> StdSource<R> {
+    /// A source that reads from `reader`, as `rt.reader()` gives it; nothing is read yet.
+    pub fn new(reader: R) -> StdSource<R> {
+        StdSource { reader, faults: 0 }
+    }
+}
+
+impl<R: Read + Drop> Source for StdSource<R> {
+    ghost left = { λ _. None };
+
+    ghost faults = { λ s. s.faults };
+
+    fn read(&mut self, into: &mut [u8]) -> Result<usize, Trouble> {
+        match self.reader.read(into) {
+            Ok(count) => Ok(count),
+            Err(_) => {
+                self.faults = self.faults.saturating_add(1);
+                Err(Trouble::Failed)
+            }
+        }
+    }
+}
+
+/// The standard output of a runtime as a sink: each piece is written and flushed. It tells no bytes, and counts each
+/// error as a fault, and also where nothing of a piece was taken.
+#[derive(Drop)]
+pub struct StdSink<'a, R: Print> {
+    rt: &'a R,
+    faults: u64,
+}
+
+impl<'a, R: Print> StdSink<'a, R> {
+    /// A sink that writes to the standard output of `rt`; nothing is written yet.
+    pub fn new(rt: &'a R) -> StdSink<'a, R> {
+        StdSink { rt, faults: 0 }
+    }
+}
+
+impl<R: Print> Sink for StdSink<'_, R> {
+    ghost taken = { λ _. None };
+
+    ghost faults = { λ s. s.faults };
+
+    fn write(&mut self, bytes: &[u8]) -> Result<usize, Trouble> {
+        let mut out = io::writer(self.rt);
+        let written = out.write(bytes);
+        let flushed = out.flush();
+        if let Ok(count) = written
+            && flushed.is_ok()
+            && (count > 0 || bytes.is_empty())
+        {
+            return Ok(count);
+        }
+        self.faults = self.faults.saturating_add(1);
+        Err(Trouble::Failed)
+    }
+}

@@ -1,0 +1,4 @@
+pub mod Endings
+pub mod Statuses
+pub mod Views
+pub mod Words

@@ -1,0 +1,69 @@
+//! The replies to all lines of the commands.
+
+ghost use Rattle.std.specs.Prelude.{◌≡◌, ◌+◌, ◌-◌, ◌^◌, ◌<◌, ◌≤◌, OnErr, OnOk, length};
+ghost use Rattle.std.specs.Io.KnownBytes.{Appends};
+ghost use Rattle.dbn_io.specs.Causes.{HasCause};
+ghost use Rattle.dbn_model.specs.Commands.{run_text, step};
+ghost use Rattle.dbn_model.specs.Content.{AppendsFront, SameTold};
+ghost use Rattle.dbn_top.specs.Views.{line_view};
+
+use crate::command::Command;
+use crate::line::{Line, first_line};
+use crate::net::Net;
+use crate::state::State;
+use dbn_io::{Sink, Trouble, write_whole};
+use std::alloc::Global;
+
+/// Runs a net over the lines of `commands`, and writes the reply to each. After an error a front of the replies was
+/// written; `Failed` comes only where the count of faults rose.
+pub(crate) fn serve_all<K: Sink>(
+    alloc: Global,
+    net: Net,
+    commands: &[u8],
+    out: &mut K,
+) -> Result<(), Trouble>
+    ensures all { OnOk result (Appends (K.taken out.old) (K.taken out.new) (run_text net commands.now)) }
+    ensures part { OnErr result (AppendsFront (K.taken out.old) (K.taken out.new) (run_text net commands.now)) }
+    ensures told { SameTold (K.taken out.old) (K.taken out.new) }
+    ensures cause { HasCause (K.faults out.old) (K.faults out.new) result }
+{
+    let Ok(mut state) = State::start(alloc, net) else {
+        return Err(Trouble::Memory);
+    };
+    let mut rest = commands;
+    'lines: while !rest.is_empty() {
+        let (line, after) = first_line(rest);
+        match serve_one(alloc, &mut state, line, out) {
+            Ok(()) => rest = after,
+            Err(trouble) => return Err(trouble),
+        }
+    }
+    Ok(())
+}
+
+// Obeys one line, and writes the reply to it.
+fn serve_one<K: Sink>(
+    alloc: Global,
+    state: &mut State,
+    line: Line,
+    out: &mut K,
+) -> Result<(), Trouble>
+    requires { state.old.fired < 2 ^ 64 - 1 }
+    ensures all { OnOk result (Appends (K.taken out.old) (K.taken out.new) (step state.old (line_view line.entry)).reply) }
+    ensures next { OnOk result (state.new ≡ (step state.old (line_view line.entry)).next) }
+    ensures count { OnOk result (state.new.fired ≤ state.old.fired + 1) }
+    ensures part { OnErr result (AppendsFront (K.taken out.old) (K.taken out.new) (step state.old (line_view line.entry)).reply) }
+    ensures told { SameTold (K.taken out.old) (K.taken out.new) }
+    ensures cause { HasCause (K.faults out.old) (K.faults out.new) result }
+{
+    let Ok(command) = Command::of(alloc, line) else {
+        return Err(Trouble::Memory);
+    };
+    let Ok(reply) = state.obey(alloc, command) else {
+        return Err(Trouble::Memory);
+    };
+    let Ok(text) = reply.text(alloc) else {
+        return Err(Trouble::Memory);
+    };
+    write_whole(out, text.as_slice())
+}
