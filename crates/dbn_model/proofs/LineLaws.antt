@@ -11,7 +11,8 @@ use Rattle.dbn_model.specs.Lines.{Line, Text, Long, lines, line_of, without_empt
 -- a part before others is kept
 kept : (part : List ℕ) (parts : List (List ℕ)) → 0 < length parts → without_empty_end (part ∷ parts) ≡ part ∷ without_empty_end parts
 kept part [] some = absurd (omega arith)
-kept part (next ∷ parts) some = refl
+kept [] (next ∷ parts) some = refl
+kept (byte ∷ part) (next ∷ parts) some = refl
 
 -- the line before the first line feed, and then the lines of what stands after it
 pub lines-first : (bytes : List ℕ) (end : ℕ) → position (λ byte. byte == 10) bytes ≡ Some end → lines bytes ≡ line_of (take end bytes) ∷ lines (drop (end + 1) bytes)
