@@ -1,0 +1,20 @@
+//! The values of a net: types, spellings, orders, rows, and the cells and coders that stand for values.
+#![tactic(auto)]
+
+mod cell;
+mod coder;
+mod lists;
+mod name;
+mod order;
+mod row;
+mod term;
+mod value;
+
+pub use cell::Cell;
+pub use coder::{Coder, PlainCoder};
+pub use lists::{Bytes, Nums, Rows, RowsOf, Shape, Shapes, Terms, TypedNames, TypedVars, Vars};
+pub use name::Name;
+pub use order::compare;
+pub use row::Row;
+pub use term::{Cmp, Term, Var};
+pub use value::{ColType, IdNo, Txt, Value, ValueFault};
