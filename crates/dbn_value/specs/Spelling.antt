@@ -1,8 +1,8 @@
 -- The one spelling of each value, and the value that bytes spell.
 use Rattle.std.specs.Prelude.{◌≡◌, ℕ, ◌+◌, ◌<◌, ◌≤◌, ◌^◌, ℤ, pos, negsuc, neg_ℤ, Bool, true, false, not, ◌&&◌, ◌||◌, ◌==◌, nat_lt, if◌then◌else◌, List, [], ◌∷◌, ◌++◌, length, Option, Some, None}
 use Rattle.std.specs.Option.{option_map, option_and_then}
+use Rattle.std.specs.List.{list_all, flat_map}
 use Rattle.std.specs.Char.{is_ascii_digit}
-use Rattle.std.specs.Str.{all_ascii_digits}
 use Rattle.std.specs.Str.Parse.{digits_value}
 use Rattle.std.specs.Fmt.{decimal, signed_decimal}
 use Rattle.dbn_value.specs.Text.{is_text, IsText}
@@ -13,10 +13,12 @@ use Rattle.dbn_value.specs.declared.value.Value.TheVariants.{Int, Text, Id}
 abbrev pub is_special : ℕ → Bool
 is_special b = b == 34 || b == 92
 
--- a backslash before each quote and each backslash
+-- a backslash before a quote and a backslash
+abbrev pub escape : ℕ → List ℕ
+escape b = if is_special b then 92 ∷ b ∷ [] else b ∷ []
+
 abbrev pub escaped : List ℕ → List ℕ
-escaped [] = []
-escaped (b ∷ bytes) = if is_special b then 92 ∷ b ∷ escaped bytes else b ∷ escaped bytes
+escaped bytes = flat_map escape bytes
 
 -- a text between quotes
 abbrev pub quoted : List ℕ → List ℕ
@@ -36,10 +38,10 @@ unescaped false (b ∷ bytes) =
     if b == 34 then (if length bytes == 0 then Some [] else None)
     else (if b == 92 then unescaped true bytes else option_map (λ text. b ∷ text) (unescaped false bytes))
 
--- decimal digits without a leading zero
+-- `0` alone, or decimal digits of which the first isn't 0
 abbrev pub is_number : List ℕ → Bool
 is_number [] = false
-is_number (d ∷ digits) = is_ascii_digit d && all_ascii_digits digits && not (d == 48 && nat_lt 0 (length digits))
+is_number (d ∷ digits) = if d == 48 then length digits == 0 else list_all is_ascii_digit (d ∷ digits)
 
 -- the number that the bytes write, below the limit
 abbrev pub number_below : ℕ → List ℕ → Option ℕ
@@ -47,6 +49,12 @@ number_below limit bytes = if is_number bytes && nat_lt (digits_value 10 bytes) 
 
 abbrev pub text_value : List ℕ → Option Value
 text_value text = if is_text text then Some (Text text) else None
+
+abbrev pub id_value : ℕ → Value
+id_value n = Id n
+
+abbrev pub natural_value : ℕ → Value
+natural_value n = Int (pos n)
 
 -- the int below 0
 abbrev pub negative_value : ℕ → Option Value
@@ -56,9 +64,9 @@ negative_value n = if n == 0 then None else Some (Int (neg_ℤ (pos n)))
 abbrev pub value_from : ℕ → List ℕ → Option Value
 value_from b bytes =
     if b == 34 then option_and_then text_value (unescaped false bytes)
-    else (if b == 35 then option_map (λ n. Id n) (number_below (2 ^ 62) bytes)
+    else (if b == 35 then option_map id_value (number_below (2 ^ 62) bytes)
     else (if b == 45 then option_and_then negative_value (number_below (2 ^ 63 + 1) bytes)
-    else option_map (λ n. Int (pos n)) (number_below (2 ^ 63) (b ∷ bytes))))
+    else option_map natural_value (number_below (2 ^ 63) (b ∷ bytes))))
 
 -- the value that the bytes spell
 unfoldable pub value_of_bytes : List ℕ → Option Value

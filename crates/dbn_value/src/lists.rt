@@ -100,6 +100,15 @@ impl Nums {
         Ok(Nums { nums })
     }
 
+    /// The numbers of the vector; this takes no memory.
+    pub fn from_vec(nums: Vec<usize>) -> Nums
+        ensures { result ≡ nums.items }
+    {
+        Nums {
+            nums: SmallVec::from_vec(nums),
+        }
+    }
+
     /// The numbers as a slice.
     pub fn as_slice(&self) -> &[usize]
         ensures { result.now ≡ self.now }

@@ -1,8 +1,12 @@
-ghost use Rattle.std.specs.Prelude.{◌≡◌, ◌≤◌, ◌<◌, ◌^◌, MatchOption, IfOk};
-ghost use Rattle.dbn_value.specs.Text.{IsText};
+ghost use Rattle.std.specs.Prelude.{◌≡◌, ◌≤◌, ◌<◌, ◌^◌, MatchOption, IfOk, IsErrOf, Some, None, if◌then◌else◌, IsFalse, ◌↔◌};
+ghost use Rattle.std.specs.List.{list_any};
+ghost use Rattle.std.specs.Char.{is_control};
+ghost use Rattle.std.specs.Str.{chars};
+ghost use Rattle.dbn_value.specs.Text.{is_text, IsText};
 
 use std::alloc::{AllocError, Global};
 use std::marker::Model;
+use std::str::from_utf8;
 
 /// The type of a column, a variable or a value.
 #[derive(Debug, Clone, Copy, PartialEq, Eq, Drop)]
@@ -10,6 +14,27 @@ pub enum ColType {
     Int,
     Text,
     Id,
+}
+
+/// The greatest number of bytes of a text.
+pub const MAX_TEXT_BYTES: usize = 4096;
+
+/// Whether a control character stands in the text.
+fn has_control(text: &str) -> bool
+    ensures { result ≡ list_any is_control (chars text.now) }
+{
+    text.chars().any(|c| c.is_control())
+}
+
+/// Whether the bytes are a text.
+#[tactic(auto, using(crate::proofs::Texts::no_utf8, crate::proofs::Texts::too_long, crate::proofs::Texts::fits_text))]
+pub(crate) fn is_text(bytes: &[u8]) -> bool
+    ensures { result ≡ is_text bytes.now }
+{
+    match from_utf8(bytes) {
+        Ok(text) => bytes.len() <= MAX_TEXT_BYTES && !has_control(text),
+        Err(_) => false,
+    }
 }
 
 /// A text: at most 4,096 bytes of UTF-8 without control characters.
@@ -33,6 +58,29 @@ impl Model for Txt {
 }
 
 impl Txt {
+    /// The text of these bytes. `Spelling` comes exactly where they are no text.
+    pub fn from_bytes(alloc: Global, bytes: &[u8]) -> Result<Txt, ValueFault>
+        ensures ok { IfOk result (λ text. text ≡ bytes.now) }
+        ensures spelling { IsErrOf result ValueFault.Spelling ↔ IsFalse (is_text bytes.now) }
+    {
+        if !is_text(bytes) {
+            return Err(ValueFault::Spelling);
+        }
+        let bytes = Vec::from_slice(alloc, bytes)?;
+        Ok(Txt { bytes })
+    }
+
+    /// The text of these bytes, which takes no memory, and `None` exactly where they are no text.
+    pub fn from_vec(bytes: Vec<u8>) -> Option<Txt>
+        ensures { result ≡ (if is_text bytes.items then Some bytes.items else None) }
+    {
+        if is_text(bytes.as_slice()) {
+            Some(Txt { bytes })
+        } else {
+            None
+        }
+    }
+
     /// The bytes of the text.
     pub fn as_bytes(&self) -> &[u8]
         ensures value { result.now ≡ self.now }
