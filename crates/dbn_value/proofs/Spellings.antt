@@ -194,7 +194,7 @@ at_none (b ∷ bs) l = absurd (omega arith)
 abbrev pub behind_first : List ℕ → List ℕ
 behind_first bs = take (length bs - 1) (drop 1 bs)
 
-behind_is : (b : ℕ) (bs : List ℕ) → behind_first (b ∷ bs) ≡ bs
+pub behind_is : (b : ℕ) (bs : List ℕ) → behind_first (b ∷ bs) ≡ bs
 behind_is b bs = grind (arith, common_steps)
 
 pub at_quote : (bs : List ℕ) → 0 < length bs → get_or bs 0 0 ≡ 34 → option_and_then text_value (unescaped false (behind_first bs)) ≡ value_of_bytes bs

@@ -1,8 +1,12 @@
-ghost use Rattle.std.specs.Prelude.{◌≡◌, refl, length};
+ghost use Rattle.std.specs.Prelude.{◌≡◌, ◌<◌, refl, length, IfOk, All};
 ghost use Rattle.std.specs.Ordering.{eq_by_cmp, as_partial_cmp};
 ghost use Rattle.std.specs.Cmp.{partial_equiv_from_equiv, eq_by_cmp_equiv, partial_order_from_total};
 ghost use Rattle.std.specs.Cmp.Lexicographic.{slice_cmp, lists_total};
+ghost use Rattle.dbn_value.specs.Picked.{picked};
 
+use super::cell::Cell;
+use super::copying::CopyIn;
+use std::alloc::{AllocError, Global};
 use std::cmp::Ordering;
 use std::marker::Model;
 
@@ -82,4 +86,43 @@ impl<C: Ord> Ord for Row<C> {
     fn cmp(&self, other: &Row<C>) -> Ordering {
         self.cells.cmp(&other.cells)
     }
+}
+
+impl<C: Cell> CopyIn for Row<C> {
+    fn copy_in(&self, alloc: Global) -> Result<Row<C>, AllocError> {
+        let cells = copy_cells(alloc, self.cells.as_slice())?;
+        Ok(Row { cells })
+    }
+}
+
+/// The cells again, in the same order; an error is want of memory.
+fn copy_cells<C: Cell>(alloc: Global, cells: &[C]) -> Result<Vec<C>, AllocError>
+    ensures { IfOk result (λ copies. copies.items ≡ cells.now) }
+{
+    let mut copies = Vec::new(alloc);
+    for cell in cells {
+        copies.push(cell.copy_in(alloc)?)?;
+    }
+    Ok(copies)
+}
+
+/// The cells of the row at these columns, in the order of the columns; an error is want of memory.
+pub fn pick<C: Cell>(alloc: Global, row: &Row<C>, columns: &[usize]) -> Result<Row<C>, AllocError>
+    requires { All (λ column. column < length row.now) columns.now }
+    ensures { IfOk result (λ cells. cells ≡ picked columns.now row.now) }
+{
+    let cells = pick_cells(alloc, row.as_slice(), columns)?;
+    Ok(Row { cells })
+}
+
+/// The cells at these columns.
+fn pick_cells<C: Cell>(alloc: Global, cells: &[C], columns: &[usize]) -> Result<Vec<C>, AllocError>
+    requires { All (λ column. column < length cells.now) columns.now }
+    ensures { IfOk result (λ chosen. chosen.items ≡ picked columns.now cells.now) }
+{
+    let mut chosen = Vec::new(alloc);
+    for column in columns {
+        chosen.push(cells[*column].copy_in(alloc)?)?;
+    }
+    Ok(chosen)
 }
