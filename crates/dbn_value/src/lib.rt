@@ -24,3 +24,6 @@ pub use row::{Row, pick};
 pub use spelling::{in_range, spell};
 pub use term::{Cmp, Term, Var};
 pub use value::{ColType, IdNo, MAX_TEXT_BYTES, Txt, Value, ValueFault};
+
+#[cfg(test)]
+mod tests;
