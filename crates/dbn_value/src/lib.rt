@@ -1,0 +1,29 @@
+//! The values of a net: types, spellings, orders, rows, and the cells and coders that stand for values.
+#![tactic(auto)]
+
+mod cell;
+mod coder;
+mod copying;
+mod lists;
+mod name;
+mod order;
+mod reading;
+mod row;
+mod spelling;
+mod term;
+mod value;
+
+pub use cell::Cell;
+pub use coder::{Coder, PlainCoder};
+pub use copying::{CopyIn, copy_items};
+pub use lists::{Bytes, Nums, Rows, RowsOf, Shape, Shapes, Terms, TypedNames, TypedVars, Vars};
+pub use name::Name;
+pub use order::compare;
+pub use reading::read_value;
+pub use row::{Row, pick};
+pub use spelling::{in_range, spell};
+pub use term::{Cmp, Term, Var};
+pub use value::{ColType, IdNo, MAX_TEXT_BYTES, Txt, Value, ValueFault};
+
+#[cfg(test)]
+mod tests;
