@@ -1,2 +1,7 @@
-pub mod Closed
 pub mod Disk
+pub mod Images
+pub mod MemState
+pub mod Picked
+pub mod Replays
+pub mod SoundLaws
+pub mod Untold

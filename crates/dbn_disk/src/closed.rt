@@ -40,9 +40,9 @@ impl ClosedDisk {
 }
 
 impl Disk for ClosedDisk {
-    ghost use Rattle.dbn_disk.specs.Closed.{closed_state};
+    ghost use Rattle.dbn_disk.specs.Untold.{untold_state};
 
-    ghost state = { λ faults. closed_state faults };
+    ghost state = { λ faults. untold_state faults };
 
     ghost sound = { λ faults honest. cc };
 

@@ -3,9 +3,17 @@
 
 mod closed;
 mod device;
+mod file;
+mod held;
+mod log;
+mod memory;
+mod past;
 
 pub use closed::ClosedDisk;
 pub use device::Disk;
+pub use file::FileDisk;
+pub use memory::MemDisk;
+pub use past::ImagePick;
 
 #[cfg(test)]
 mod tests;

@@ -1,6 +1,21 @@
-use super::*;
-use dbn_io::Trouble;
+//! What no clause says: that calls succeed, and what a real file does.
+
+use crate::{ClosedDisk, Disk, FileDisk, ImagePick, MemDisk};
+use dbn_io::{Bytes, Calls, Trouble};
+use std::alloc::Global;
 use std::test::Fail;
+
+fn memory(alloc: Global, bytes: &[u8], fails: &[u64]) -> Result<MemDisk, Fail> {
+    let bytes = Bytes::from_vec(bytes.to_vec(alloc)?);
+    Ok(MemDisk::new(alloc, bytes, Calls::from_vec(fails.to_vec(alloc)?))?)
+}
+
+// Whether a disk holds these bytes, at most 16.
+fn holds<D: Disk>(disk: &mut D, bytes: &[u8]) -> bool {
+    let mut buffer = [0; 16];
+    let count = disk.read(0, &mut buffer).unwrap_or(16);
+    disk.len() == Ok(bytes.len() as u64) && &buffer[..count] == bytes
+}
 
 // Every call on any disk, at a closed one.
 fn fails_in_each<D: Disk>(disk: &mut D) -> bool {
@@ -15,5 +30,69 @@ fn fails_in_each<D: Disk>(disk: &mut D) -> bool {
 #[test]
 fn a_closed_disk_fails(rt: HostRuntime) -> Result<(), Fail> {
     assert!(rt; fails_in_each(&mut ClosedDisk::new()));
+    Ok(())
+}
+
+#[test]
+fn a_disk_in_memory_holds_what_is_written(rt: HostRuntime) -> Result<(), Fail> {
+    let mut disk = memory(rt.alloc(), b"abc", [].as_slice())?;
+    assert_eq!(rt; disk.write_at(5, b"xy"), Ok(()));
+    assert!(rt; holds(&mut disk, b"abc\0\0xy"));
+    assert_eq!(rt; disk.cut(6), Ok(()));
+    assert_eq!(rt; disk.sync(), Ok(()));
+    assert!(rt; holds(&mut disk, b"abc\0\0x"));
+    Ok(())
+}
+
+#[test]
+fn a_disk_in_memory_fails_at_its_calls(rt: HostRuntime) -> Result<(), Fail> {
+    let mut disk = memory(rt.alloc(), b"abc", [0, 2, 3].as_slice())?;
+    assert_eq!(rt; disk.write_at(0, b"x"), Err(Trouble::Failed));
+    assert_eq!(rt; disk.cut(1), Ok(()));
+    assert_eq!(rt; disk.sync(), Err(Trouble::Failed));
+    assert_eq!(rt; disk.cut(0), Err(Trouble::Failed));
+    assert!(rt; holds(&mut disk, b"a"));
+    Ok(())
+}
+
+// What stands after a write of two bytes at place 1 of three and a cut to 2, at each moment, with loose bytes.
+#[test]
+fn images_have_the_bytes_that_are_picked(rt: HostRuntime) -> Result<(), Fail> {
+    let alloc = rt.alloc();
+    let mut disk = memory(alloc, b"abc", [].as_slice())?;
+    assert_eq!(rt; disk.write_at(1, b"xyz"), Ok(()));
+    assert_eq!(rt; disk.cut(2), Ok(()));
+    assert_eq!(rt; disk.sync(), Ok(()));
+    let rows: [(u64, u64, &[u8]); 7] = [
+        (0, 9, b"abc"),
+        (1, 0, b"a12"),
+        (1, 9, b"a123"),
+        (2, 0, b"a1"),
+        (2, 3, b"a12"),
+        (3, 9, b"ax"),
+        (9, 0, b"ax"),
+    ];
+    for (moment, len, bytes) in rows {
+        let loose = Bytes::from_vec(b"123".to_vec(alloc)?);
+        let pick = ImagePick { moment, len, loose };
+        assert!(rt; holds(&mut disk.image(alloc, &pick)?, bytes));
+    }
+    Ok(())
+}
+
+#[test]
+fn a_file_is_a_disk(rt: HostRuntime) -> Result<(), Fail> {
+    let mut disk = FileDisk::new(&rt, "disk.bin");
+    assert!(rt; holds(&mut disk, b""));
+    assert_eq!(rt; disk.write_at(2, b"abc"), Ok(()));
+    assert_eq!(rt; disk.sync(), Ok(()));
+    assert!(rt; holds(&mut disk, b"\0\0abc"));
+    assert_eq!(rt; disk.cut(3), Ok(()));
+    assert_eq!(rt; disk.sync(), Ok(()));
+    assert!(rt; holds(&mut FileDisk::new(&rt, "disk.bin"), b"\0\0a"));
+    assert_eq!(rt;
+        FileDisk::new(&rt, "no_folder/disk.bin").write_at(0, b"a"),
+        Err(Trouble::Failed)
+    );
     Ok(())
 }

@@ -1,0 +1,4 @@
+pub mod Going
+pub mod ImageLaws
+pub mod PickedLaws
+pub mod Present
