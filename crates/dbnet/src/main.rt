@@ -1,0 +1,57 @@
+//! The program `dbnet`: it works in the current folder on the file `net.dbn`, takes commands from standard input and
+//! writes the replies to standard output. It ends with the number of the status of its run.
+#![tactic(auto)]
+
+use dbn_disk::ClosedDisk;
+use dbn_io::{LazyFileSource, Limits, StdSink, StdSource};
+use dbn_top::{Status, dbnet};
+use std::alloc::AllocError;
+use std::env;
+use std::process::ExitCode;
+
+// The file with the text of the net.
+const NET_FILE: &str = "net.dbn";
+
+// The limits of the program, in bytes.
+const LIMITS: Limits = Limits {
+    input_bytes: 1 << 40,
+    net_bytes: 1 << 25,
+    file_bytes: 1 << 40,
+};
+
+fn main(rt: HostRuntime) -> ExitCode {
+    ExitCode::from(run(&rt).code())
+}
+
+// Runs the verb that the arguments name.
+fn run(rt: &HostRuntime) -> Status {
+    let Ok(words) = words(rt) else {
+        return Status::Memory;
+    };
+    let mut net = LazyFileSource::new(rt, NET_FILE);
+    let mut commands = StdSource::new(rt.reader());
+    let mut out = StdSink::new(rt);
+    let ended = dbnet(
+        rt.alloc(),
+        words.as_slice(),
+        &mut net,
+        &mut commands,
+        &mut out,
+        ClosedDisk::new(),
+        ClosedDisk::new(),
+        &LIMITS,
+    );
+    ended.status
+}
+
+// The arguments after the program's name. Arguments that are no text are as good as none: they name no verb.
+fn words(rt: &HostRuntime) -> Result<Vec<String>, AllocError> {
+    let mut words = Vec::new(rt.alloc());
+    let Ok(args) = env::args(rt) else {
+        return Ok(words);
+    };
+    for word in args.skip(1) {
+        words.push(word)?;
+    }
+    Ok(words)
+}
