@@ -1,0 +1,12 @@
+pub mod ApartLaws
+pub mod ConstantsLaws
+pub mod Examples
+pub mod Folds
+pub mod FreeLaws
+pub mod HoldsLaws
+pub mod Induction
+pub mod Maps
+pub mod NormalLaws
+pub mod SafeLaws
+pub mod SizeLaws
+pub mod TypingLaws

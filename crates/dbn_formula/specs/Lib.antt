@@ -1,0 +1,9 @@
+pub mod Answers
+pub mod Apart
+pub mod Free
+pub mod Holds
+pub mod Normal
+pub mod Safe
+pub mod Size
+pub mod Typing
+pub mod Variables
