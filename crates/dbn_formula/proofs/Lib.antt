@@ -1,5 +1,6 @@
 pub mod ApartLaws
 pub mod ConstantsLaws
+pub mod Depends
 pub mod Examples
 pub mod Folds
 pub mod FreeLaws
@@ -9,4 +10,6 @@ pub mod Maps
 pub mod NormalLaws
 pub mod SafeLaws
 pub mod SizeLaws
+pub mod Tests
 pub mod TypingLaws
+pub mod VariableLaws

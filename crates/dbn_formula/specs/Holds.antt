@@ -1,8 +1,9 @@
 -- What a formula means over an instance, for values of its variables. Quantified variables range over a domain.
-use Rattle.std.specs.Prelude.{pos, Bool, not, ◌||◌, if◌then◌else◌, List, [], ◌∷◌, map, slice_index_or}
+use Rattle.std.specs.Prelude.{◌≡◌, pos, Bool, not, ◌||◌, if◌then◌else◌, List, [], ◌∷◌, map, slice_index_or}
 use Rattle.std.specs.declared.cmp.Ordering.{Ordering}
 use Rattle.std.specs.Ordering.{is_eq, is_lt, is_le, is_gt, is_ge, eq_by_cmp}
 use Rattle.std.specs.List.{list_any, list_all}
+use Rattle.dbn_value.specs.Members.{In}
 use Rattle.dbn_value.specs.Order.{value_cmp, row_cmp}
 use Rattle.dbn_value.specs.declared.value.Value.{Value}
 use Rattle.dbn_value.specs.declared.value.Value.TheVariants.{Int}
@@ -34,6 +35,10 @@ Instance = List (List (List Value))
 abbrev pub lookup : Env → Var → Value
 lookup [] x = Int (pos 0)
 lookup (entry ∷ env) x = if var_eq x entry.0 then entry.1 else lookup env x
+
+-- two environments give each variable of the list the same value
+abbrev pub Agree : List Var → Env → Env → Type 0
+Agree xs s t = (x : Var) → In x xs → lookup s x ≡ lookup t x
 
 abbrev pub value_of : Env → Term → Value
 value_of env (term.Var x) = lookup env x
