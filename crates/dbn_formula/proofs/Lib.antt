@@ -7,7 +7,11 @@ pub mod FreeLaws
 pub mod HoldsLaws
 pub mod Induction
 pub mod Maps
+pub mod NormalAgain
+pub mod NormalConstants
+pub mod NormalFree
 pub mod NormalLaws
+pub mod NormalMeaning
 pub mod SafeLaws
 pub mod SizeLaws
 pub mod Tests
