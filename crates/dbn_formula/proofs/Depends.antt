@@ -1,8 +1,7 @@
 -- What holds depends only on the values of the free variables.
-use Rattle.std.proofs.Common.{◌≡◌, ℕ, ◌⊎◌, inl, inr, ⊎_elim, Bool, true, false, cond, not, ◌&&◌, ◌||◌, List, [], ◌∷◌, ◌++◌, map, refl, ap, sym, ◌∙◌, subst}
+use Rattle.std.proofs.Common.{◌≡◌, ℕ, inl, Bool, true, false, cond, not, ◌||◌, List, [], ◌∷◌, ◌++◌, map, refl, ap, sym, ◌∙◌, subst}
 use Rattle.std.specs.Prelude.{slice_index_or}
-use Rattle.std.specs.List.{list_any, list_all, flat_map, filter, AllByRecursion}
-use Rattle.dbn_value.specs.Members.{In}
+use Rattle.std.specs.List.{list_any, flat_map, AllByRecursion}
 use Rattle.dbn_value.proofs.MemberLaws.{append_left, append_right}
 use Rattle.dbn_value.specs.Order.{value_cmp}
 use Rattle.dbn_value.specs.declared.value.Value.{Value}
@@ -16,7 +15,7 @@ use Rattle.dbn_formula.specs.declared.formula.Formula.TheVariants.{Atom, Test, A
 use Rattle.dbn_formula.specs.Variables.{TypedVars, var_eq, binds}
 use Rattle.dbn_formula.specs.Holds.{Env, Domain, Instance, lookup, value_of, meets, row_eq, some_choice, every_choice, holds_over, Agree}
 use Rattle.dbn_formula.specs.Free.{variable_of, unhidden, occurrences, free}
-use Rattle.dbn_formula.proofs.Induction.{Steps, induction}
+use Rattle.dbn_formula.proofs.Induction.{induction}
 use Rattle.dbn_formula.proofs.HoldsLaws.{holds_atom, holds_test, holds_and, holds_or, holds_not, holds_implies, holds_exists, holds_forall}
 use Rattle.dbn_formula.proofs.FreeLaws.{occurrences_atom, occurrences_test, occurrences_and, occurrences_or, occurrences_not, occurrences_implies, occurrences_exists, occurrences_forall}
 use Rattle.dbn_formula.proofs.VariableLaws.{in_unhidden, unhidden_in, firsts_in}

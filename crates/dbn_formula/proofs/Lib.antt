@@ -1,3 +1,4 @@
+pub mod AnswersLaws
 pub mod ApartLaws
 pub mod ConstantsLaws
 pub mod Depends
@@ -8,10 +9,12 @@ pub mod HoldsLaws
 pub mod Induction
 pub mod Maps
 pub mod NormalAgain
+pub mod NormalAnswers
 pub mod NormalConstants
 pub mod NormalFree
 pub mod NormalLaws
 pub mod NormalMeaning
+pub mod NormalSize
 pub mod SafeLaws
 pub mod SizeLaws
 pub mod Tests

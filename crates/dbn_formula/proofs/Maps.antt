@@ -13,7 +13,3 @@ flat_alike p q (f ∷ fs) each = ap (λ xs. xs ++ flat_map p fs) each.0 ∙ ap (
 pub maps_alike : {B C : Type 0} (p q : B → C) (fs : List B) → AllByRecursion (λ f. p f ≡ q f) fs → map p fs ≡ map q fs
 maps_alike p q [] each = refl
 maps_alike p q (f ∷ fs) each = ap (λ g. g ∷ map p fs) each.0 ∙ ap (λ gs. q f ∷ gs) (maps_alike p q fs each.1)
-
-pub append-nil : {A : Type 0} (xs : List A) → xs ++ [] ≡ xs
-append-nil [] = refl
-append-nil (x ∷ xs) = ap (λ ys. x ∷ ys) (append-nil xs)

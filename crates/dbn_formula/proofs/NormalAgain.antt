@@ -1,29 +1,15 @@
 -- The normal form is its own normal form.
-use Rattle.std.proofs.Common.{◌≡◌, ℕ, Bool, true, false, not, ◌&&◌, ◌||◌, List, [], ◌∷◌, ◌++◌, map, refl, ap, sym, ◌∙◌, subst}
-use Rattle.std.specs.declared.cmp.Ordering.{Ordering}
-use Rattle.std.specs.declared.cmp.Ordering.TheVariants.{Less, Equal, Greater}
-use Rattle.std.specs.List.{list_any, list_all, flat_map, AllByRecursion}
-use Rattle.std.proofs.lemmas.List.Folds.{list_all-map, flat_map-map}
-use Rattle.dbn_value.proofs.MemberLaws.{any_map}
-use Rattle.dbn_value.specs.Order.{value_cmp}
-use Rattle.dbn_value.specs.declared.value.Value.{Value}
-use Rattle.dbn_value.specs.declared.term.Var.{Var}
+use Rattle.std.proofs.Common.{◌≡◌, ℕ, Bool, true, false, List, [], ◌∷◌, map, ap, sym, ◌∙◌}
+use Rattle.std.specs.List.{AllByRecursion}
 use Rattle.dbn_value.specs.declared.term.Term.{Term}
 use Rattle.dbn_value.specs.declared.term.Cmp.{Cmp}
-use Rattle.dbn_value.specs.declared.term.Cmp.TheVariants as cmp
 use Rattle.dbn_formula.specs.declared.formula.Formula.{Formula}
 use Rattle.dbn_formula.specs.declared.formula.Formula.TheVariants.{Atom, Test, And, Or, Not, Implies, Exists, Forall}
 use Rattle.dbn_formula.specs.Variables.{TypedVars}
-use Rattle.dbn_formula.specs.Holds.{Env, Domain, Instance, value_of, meets, some_choice, every_choice, holds_over}
-use Rattle.dbn_formula.specs.Answers.{constant_of, constants}
-use Rattle.dbn_formula.specs.Free.{variable_of, unhidden, occurrences}
 use Rattle.dbn_formula.specs.Normal.{denied_cmp, normal_at}
-use Rattle.dbn_formula.proofs.Induction.{Steps, induction}
-use Rattle.dbn_formula.proofs.Maps.{map-map, flat_alike, maps_alike, append-nil}
-use Rattle.dbn_formula.proofs.Tests.{not_not, not_and, not_or, any_alike, all_alike, any_denied, all_denied, each_of, everywhere}
-use Rattle.dbn_formula.proofs.HoldsLaws.{holds_atom, holds_test, holds_and, holds_or, holds_not, holds_implies, holds_exists, holds_forall}
-use Rattle.dbn_formula.proofs.ConstantsLaws.{constants_atom, constants_test, constants_and, constants_or, constants_not, constants_implies, constants_exists, constants_forall}
-use Rattle.dbn_formula.proofs.FreeLaws.{occurrences_atom, occurrences_test, occurrences_and, occurrences_or, occurrences_not, occurrences_implies, occurrences_exists, occurrences_forall}
+use Rattle.dbn_formula.proofs.Induction.{induction}
+use Rattle.dbn_formula.proofs.Maps.{map-map, maps_alike}
+use Rattle.dbn_formula.proofs.Tests.{each_of}
 use Rattle.dbn_formula.proofs.NormalLaws.{kept_atom, kept_test, kept_and, kept_or, kept_not, kept_implies, kept_exists, kept_forall, denied_atom, denied_test, denied_and, denied_or, denied_not, denied_implies, denied_exists, denied_forall}
 
 abbrev pub Kept : Formula → Type 0

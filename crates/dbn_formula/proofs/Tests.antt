@@ -1,6 +1,6 @@
 -- Tests of truth, and tests over lists that agree on each element.
-use Rattle.std.proofs.Common.{◌≡◌, Bool, true, false, not, ◌&&◌, ◌||◌, List, [], ◌∷◌, refl, ap, sym, ◌∙◌}
-use Rattle.std.specs.List.{list_any, list_all, AllByRecursion}
+use Rattle.std.proofs.Common.{◌≡◌, Bool, true, false, cond, not, ◌&&◌, ◌||◌, List, [], ◌∷◌, refl, ap, sym, ◌∙◌}
+use Rattle.std.specs.List.{list_any, list_all, filter, AllByRecursion}
 
 pub not_not : (b : Bool) → not (not b) ≡ b
 not_not true = refl
@@ -41,3 +41,7 @@ module _ {A : Type 0} where
   pub each_of : {P Q : A → Type 0} → ((x : A) → P x → Q x) → (xs : List A) → AllByRecursion P xs → AllByRecursion Q xs
   each_of f [] each = tt
   each_of f (x ∷ xs) each = (f x each.0, each_of f xs each.1)
+
+  pub filter_alike : (p q : A → Bool) → ((x : A) → p x ≡ q x) → (xs : List A) → filter p xs ≡ filter q xs
+  filter_alike p q same [] = refl
+  filter_alike p q same (x ∷ xs) = ap (λ b. cond b (x ∷ filter p xs) (filter p xs)) (same x) ∙ ap (λ ys. cond (q x) (x ∷ ys) ys) (filter_alike p q same xs)

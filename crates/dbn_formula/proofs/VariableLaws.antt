@@ -1,13 +1,12 @@
 -- Equal variables and types, and variables in lists.
-use Rattle.std.proofs.Common.{◌≡◌, ℕ, ◌⊎◌, inl, inr, ⊎_elim, Bool, true, false, not, ◌&&◌, ◌||◌, ◌==◌, List, [], ◌∷◌, map, refl, ap, sym, ◌∙◌, subst}
+use Rattle.std.proofs.Common.{◌≡◌, ℕ, inl, inr, ⊎_elim, Bool, true, false, not, ◌==◌, List, [], ◌∷◌, refl, ap, sym, ◌∙◌, subst}
 use Rattle.std.specs.Ordering.{nat_cmp, is_eq}
 use Rattle.std.specs.declared.cmp.Ordering.{Ordering}
 use Rattle.std.specs.declared.cmp.Ordering.TheVariants.{Less, Equal, Greater}
 use Rattle.std.specs.Cmp.{tied_itself}
 use Rattle.std.specs.Cmp.Lexicographic.{slice_cmp, nat_list_cmp_total}
 use Rattle.std.specs.FinMap.{nat_cmp-IsAntisymmetric, slice_cmp-IsAntisymmetric}
-use Rattle.std.specs.List.{list_any, list_all, filter}
-use Rattle.std.proofs.lemmas.Bool.{and_parts, and_from, or_cases, or_parts, true≢false, eqb-true, eq-eqb, not_from_false, not_from_true, false_from_ne_true}
+use Rattle.std.proofs.lemmas.Bool.{and_parts, and_from, eqb-true, eq-eqb, not_from_false, false_from_ne_true}
 use Rattle.dbn_value.specs.Members.{In}
 use Rattle.dbn_value.proofs.MemberLaws.{any_in, in_any, in_filter, filter_in}
 use Rattle.dbn_value.specs.declared.term.Var.{Var}

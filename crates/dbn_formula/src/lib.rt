@@ -2,7 +2,11 @@
 #![tactic(auto)]
 
 mod formula;
+mod laws;
 mod typing;
 
 pub use formula::{Formula, Formulas};
+pub use laws::{
+    answers_are_a_set, free_variables_decide, normal_again, normal_is_small, normal_keeps,
+};
 pub use typing::TypeFault;
