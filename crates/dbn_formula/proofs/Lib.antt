@@ -15,6 +15,9 @@ pub mod NormalFree
 pub mod NormalLaws
 pub mod NormalMeaning
 pub mod NormalSize
+pub mod RenameClear
+pub mod RenameFree
+pub mod RenameLaws
 pub mod SafeLaws
 pub mod SizeLaws
 pub mod Tests
