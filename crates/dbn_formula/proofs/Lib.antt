@@ -1,7 +1,10 @@
 pub mod AnswersLaws
 pub mod ApartLaws
+pub mod Bounded
+pub mod Choices
 pub mod ConstantsLaws
 pub mod Depends
+pub mod DistinctLaws
 pub mod Examples
 pub mod Folds
 pub mod FreeLaws
@@ -20,6 +23,7 @@ pub mod RenameFree
 pub mod RenameLaws
 pub mod SafeLaws
 pub mod SizeLaws
+pub mod SolveLaws
 pub mod Tests
 pub mod TypingLaws
 pub mod VariableLaws

@@ -2,7 +2,7 @@
 use Rattle.std.proofs.Common.{◌≡◌, ℕ, ◌≤◌, ◌⊎◌, inl, inr, ⊎_elim, Bool, true, false, cond, not, ◌||◌, List, [], ◌∷◌, ◌++◌, map, map-id, refl, ap, sym, ◌∙◌, subst, arith}
 use Rattle.std.specs.List.{list_any, flat_map, AllByRecursion}
 use Rattle.std.proofs.lemmas.List.{map-append}
-use Rattle.std.proofs.lemmas.Bool.{or_left, or_right, or_cases}
+use Rattle.std.proofs.lemmas.Bool.{or_left, or_right, or_parts}
 use Rattle.dbn_value.specs.Members.{In}
 use Rattle.dbn_value.proofs.MemberLaws.{in_append, append_left, append_right, in_filter}
 use Rattle.dbn_value.specs.declared.value.Value.{Value}
@@ -80,12 +80,8 @@ pub outer_name : (used : List ℕ) (vars : TypedVars) (n : ℕ) (names : Renamin
 outer_name used [] n names x e = refl
 outer_name used (y ∷ vars) n names x e =
     let m : ℕ = next_mark used n in
-    let parts = neither (var_eq x y.0) (binds vars x) e in
+    let parts = or_parts (var_eq x y.0) (binds vars x) e in
     outer_name used vars m ((y.0, marked y.0 m) ∷ names) x parts.1 ∙ ap (λ b. cond b (marked y.0 m) (renamed_var names x)) parts.0
-  where
-    neither : (a b : Bool) → a || b ≡ false → (a ≡ false) × (b ≡ false)
-    neither true b p = cc
-    neither false b p = (refl, p)
 
 -- a quantified one gets a fresh name
 pub inner_name : (used : List ℕ) (vars : TypedVars) (n : ℕ) (names : Renaming) (x : Var) → binds vars x ≡ true

@@ -1,9 +1,12 @@
 pub mod Answers
 pub mod Apart
+pub mod Distinct
 pub mod Free
 pub mod Holds
 pub mod Normal
+pub mod Ready
 pub mod Safe
 pub mod Size
+pub mod Solve
 pub mod Typing
 pub mod Variables
