@@ -5,6 +5,7 @@ pub mod Choices
 pub mod ConstantsLaws
 pub mod Depends
 pub mod DistinctLaws
+pub mod Environments
 pub mod Examples
 pub mod Folds
 pub mod FreeLaws
