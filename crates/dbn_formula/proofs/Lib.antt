@@ -25,6 +25,7 @@ pub mod RenameLaws
 pub mod SafeLaws
 pub mod SizeLaws
 pub mod SolveLaws
+pub mod Solved
 pub mod Tests
 pub mod TypingLaws
 pub mod VariableLaws
