@@ -1,5 +1,6 @@
 pub mod AnswersLaws
 pub mod ApartLaws
+pub mod Arranged
 pub mod Bounded
 pub mod Choices
 pub mod ConstantsLaws
@@ -19,6 +20,7 @@ pub mod NormalFree
 pub mod NormalLaws
 pub mod NormalMeaning
 pub mod NormalSize
+pub mod OrderOfParts
 pub mod RenameClear
 pub mod RenameFree
 pub mod RenameLaws
