@@ -26,8 +26,10 @@ pub mod RenameFree
 pub mod RenameLaws
 pub mod SafeLaws
 pub mod SizeLaws
+pub mod SolutionLaws
 pub mod SolveLaws
 pub mod Solved
 pub mod Tests
+pub mod TypesKept
 pub mod TypingLaws
 pub mod VariableLaws

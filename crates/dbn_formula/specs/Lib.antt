@@ -7,6 +7,7 @@ pub mod Normal
 pub mod Ready
 pub mod Safe
 pub mod Size
+pub mod Solutions
 pub mod Solve
 pub mod Typing
 pub mod Variables
