@@ -160,7 +160,7 @@ bind_row (x ∷ vars) [] env once same = absurd same
 bind_row (x ∷ vars) (v ∷ row) env once same =
     let parts = and_parts (not (binds vars x.0)) (distinct_vars vars) once in
     ap (λ w. w ∷ map (λ y. lookup (bind vars row ((x.0, v) ∷ env)) y.0) vars)
-      (bind_other vars row ((x.0, v) ∷ env) x.0 (not-true (binds vars x.0) parts.0) ∙ ap (λ b. cond b v (lookup env x.0)) (var_itself x.0))
+    (bind_other vars row ((x.0, v) ∷ env) x.0 (not-true (binds vars x.0) parts.0) ∙ ap (λ b. cond b v (lookup env x.0)) (var_itself x.0))
     ∙ ap (λ l. v ∷ l) (bind_row vars row ((x.0, v) ∷ env) parts.1 same)
 
 length_of_cells : (dom : Domain) (vars : TypedVars) (row : List Value) → CellsIn row (map (λ x. dom x.1) vars) → SameLength vars row
@@ -197,7 +197,7 @@ own_type (z ∷ vars) y once (inl here) = subst (λ (w : Var × ColType). type_i
 own_type (z ∷ vars) y once (inr there) =
     let parts = and_parts (not (binds vars z.0)) (distinct_vars vars) once in
     let other : var_eq y.0 z.0 ≡ false = false_from_ne_true (var_eq y.0 z.0) (λ same.
-      true≢false (sym (subst (λ w. binds vars w ≡ true) (var_same y.0 z.0 same) (in_bound vars y there)) ∙ not-true (binds vars z.0) parts.0)) in
+    true≢false (sym (subst (λ w. binds vars w ≡ true) (var_same y.0 z.0 same) (in_bound vars y there)) ∙ not-true (binds vars z.0) parts.0)) in
     ap (λ b. cond b (Some z.1) (type_in vars y.0)) other ∙ own_type vars y parts.1 there
 
 cells_of : (dom : Domain) (vars : TypedVars) (h : Var × ColType → Value) → ((x : Var × ColType) → In x vars → In (h x) (dom x.1)) → CellsIn (map h vars) (map (λ x. dom x.1) vars)
@@ -230,10 +230,12 @@ module _ (rels : Shapes) (vars : TypedVars) (f : Formula) (db : Instance) (accep
       let t : Env = bind vars row [] in
       let found = query_solves.complete t (record { each = λ x b. absurd (true≢false (sym b)) }) (solvable_holds (domain f db) db f t ∙ known.1) in
       let sound = query_solves.sound found.env found.at in
-      let row_is : map (λ x. lookup t x.0) vars ≡ row = bind_row vars row [] accepted.once (length_of_cells (domain f db) vars row known.0) in
-      (found.env, found.at,
+      let row_is : map (λ x. lookup t x.0) vars ≡ row = bind_row vars row [] accepted.once (length_of_cells (domain f db) vars row known.0) in (
+        found.env,
+        found.at,
         sym row_is ∙ maps_from (λ x. lookup t x.0) (λ x. lookup found.env x.0) vars (λ x within.
-          found.keeps.each x.0 (sound.step.new x.0 ((solvable_free f).back x.0 (accepted.all_free x.0 (in_bound vars x within))))))
+            found.keeps.each x.0 (sound.step.new x.0 ((solvable_free f).back x.0 (accepted.all_free x.0 (in_bound vars x within))))),
+      )
 
   pub solution_answers : (row : List Value) → IsSolution f vars db row → In row (answers f vars db)
   solution_answers row (g, at, is) =
@@ -242,15 +244,15 @@ module _ (rels : Shapes) (vars : TypedVars) (f : Formula) (db : Instance) (accep
       let cells : List Value = map h vars in
       let t : Env = bind vars cells [] in
       let same : (x : Var × ColType) → In x vars → lookup t x.0 ≡ lookup g x.0 =
-        λ x within. maps_at (λ y. lookup t y.0) h vars x (bind_row vars cells [] accepted.once (length_of_map vars h)) within in
+      λ x within. maps_at (λ y. lookup t y.0) h vars x (bind_row vars cells [] accepted.once (length_of_map vars h)) within in
       let agrees : (x : Var) → In x (occurrences f) → lookup t x ≡ lookup g x =
-        λ x occurs. let entry = bound_in vars x (all_at (binds vars) x (occurrences f) sound_types.1 occurs) in ap (lookup t) entry.2 ∙ same entry.0 entry.1 ∙ ap (lookup g) (sym entry.2) in
+      λ x occurs. let entry = bound_in vars x (all_at (binds vars) x (occurrences f) sound_types.1 occurs) in ap (lookup t) entry.2 ∙ same entry.0 entry.1 ∙ ap (lookup g) (sym entry.2) in
       let holds_g : holds_over (domain f db) db f g ≡ true = sym (solvable_holds (domain f db) db f g) ∙ sound.holds in
       let holds_t : holds_over (domain f db) db f t ≡ true = depends (domain f db) db f t g agrees ∙ holds_g in
       let values : AreValued (domain f db) vars (occurrences (solvable f)) g = valued rels vars f db fits sound_types.0 sound_types.1 accepted.is_safe g sound.holds in
       let within : CellsIn cells (map (λ x. domain f db x.1) vars) = cells_of (domain f db) vars h (λ x member.
-        let value = values.each x.0 ((solvable_free f).back x.0 (accepted.all_free x.0 (in_bound vars x member))) in
-        subst (λ type. In (lookup g x.0) (domain f db type)) (some_same value.type x.1 (sym value.is ∙ own_type vars x accepted.once member)) value.within) in
+      let value = values.each x.0 ((solvable_free f).back x.0 (accepted.all_free x.0 (in_bound vars x member))) in
+      subst (λ type. In (lookup g x.0) (domain f db type)) (some_same value.type x.1 (sym value.is ∙ own_type vars x accepted.once member)) value.within) in
       subst (λ r. In r (answers f vars db)) (sym is) (answers_in f vars db cells within holds_t)
 
 -- ---- sentences
@@ -261,25 +263,27 @@ sentence_solved rels f db accepted fits =
     let dom : Domain = domain (Not f) db in
     let closed : all_bound (Not f) [] ≡ true = ap (list_all (binds [])) (occurrences_not f) ∙ types.1 in
     let solve : Solves dom db rels (rows_in (Not f) rels db fits) (solvable (Not f)) [] =
-      solves rels [] (Not f) db fits (types_not rels f [] ∙ types.0) closed accepted.is_safe in
+    solves rels [] (Not f) db fits (types_not rels f [] ∙ types.0) closed accepted.is_safe in
     let same_domain : holds f db [] ≡ holds_over dom db f [] = ap (λ values. holds_over (λ type. ascending value_cmp (filter (λ v. type_eq (value_type v) type) (values_in db ++ values))) db f []) (sym (constants_not f)) in
     let denial : (g : Env) → holds_over dom db (solvable (Not f)) g ≡ not (holds_over dom db f g) = λ g. solvable_holds dom db (Not f) g ∙ holds_not dom db f g in
     let nothing_free : (x : Var) → In x (occurrences f) → ⊥ = λ x at. true≢false (sym (all_at (binds []) x (occurrences f) types.1 at)) in
     both_ways (holds f db []) (is_empty (solutions (Not f) db))
     (λ e. none (solutions (Not f) db) (λ g at.
-      let sound = solve.sound g at in
-      let fails : holds_over dom db f g ≡ false = not-true (holds_over dom db f g) (sym (denial g) ∙ sound.holds) in
-      true≢false (sym (sym same_domain ∙ e) ∙ depends dom db f [] g (λ x at. absurd (nothing_free x at)) ∙ fails)))
+    let sound = solve.sound g at in
+    let fails : holds_over dom db f g ≡ false = not-true (holds_over dom db f g) (sym (denial g) ∙ sound.holds) in
+    true≢false (sym (sym same_domain ∙ e) ∙ depends dom db f [] g (λ x at. absurd (nothing_free x at)) ∙ fails)))
     (λ e. true_or_not (holds f db []) (λ fails.
-      let found = solve.complete [] (record { each = λ x b. absurd (true≢false (sym b)) }) (denial [] ∙ not_from_false (holds_over dom db f []) (sym same_domain ∙ fails)) in
-      is_none (solutions (Not f) db) e found.env found.at))
+    let found = solve.complete [] (record { each = λ x b. absurd (true≢false (sym b)) }) (denial [] ∙ not_from_false (holds_over dom db f []) (sym same_domain ∙ fails)) in
+    is_none (solutions (Not f) db) e found.env found.at))
   where
     none : (gs : List Env) → ((g : Env) → In g gs → ⊥) → is_empty gs ≡ true
     none [] each = refl
     none (g ∷ gs) each = absurd (each g (inl refl))
+
     is_none : (gs : List Env) → is_empty gs ≡ true → (g : Env) → In g gs → ⊥
     is_none [] e g at = at
     is_none (h ∷ gs) e g at = true≢false (sym e)
+
     true_or_not : (b : Bool) → (b ≡ false → ⊥) → b ≡ true
     true_or_not true h = refl
     true_or_not false h = absurd (h refl)
