@@ -55,6 +55,11 @@ filled (y ∷ ys) e = (y, inl refl)
 some_same : {A : Type 0} (a b : A) → Some a ≡ Some b → a ≡ b
 some_same a b e = cc
 
+-- a quantified variable with a value inside its quantifier has it in the domain of its own type
+own_domain : (dom : Domain) (vars scope : TypedVars) (y : Var × ColType) (v : Value) → distinct_vars vars ≡ true → In y vars → IsValued dom (entered vars scope) (term.Var y.0) v → In v (dom y.1)
+own_domain dom vars scope y v once at valued =
+    subst (λ type. In v (dom type)) (some_same valued.type y.1 (sym valued.is ∙ entered_own vars scope y once at)) valued.within
+
 -- a known term has a value in an environment that covers the bound variables
 known_value : (bound : List Var) (env : Env) (a : Term) → Covers bound env → known bound a ≡ true → has_value env a ≡ true
 known_value bound env (term.Var x) covers e = covers.has x (in_of_is x bound e)
@@ -440,7 +445,7 @@ module _ (dom : Domain) (db : Instance) (rels : Shapes) (rows : RowsIn dom rels 
                   let valued = bounded_here.each y.0 occurs in
                   record {
                     value = lookup m y.0;
-                    within = subst (λ type. In (lookup m y.0) (dom type)) (some_same valued.type y.1 (sym valued.is ∙ entered_own vars scope y onces.0 at)) valued.within;
+                    within = own_domain dom vars scope y (lookup m y.0) onces.0 at valued;
                     own = λ b. refl;
                   }
               | false ↦ λ b.
@@ -470,7 +475,7 @@ module _ (dom : Domain) (db : Instance) (rels : Shapes) (rows : RowsIn dom rels 
             let m : Env = found.env in
             let can : choosable dom vars m ≡ true = all_from (λ z. is_bound m z.0 || not (is_empty (dom z.1))) vars (λ y at.
             let theirs = choice.1.theirs y.0 (in_bound vars y at) in
-            let there : In (lookup u y.0) (dom y.1) = subst (λ type. In (lookup u y.0) (dom type)) (some_same theirs.type y.1 (sym theirs.is ∙ entered_own vars scope y onces.0 at)) theirs.within in
+            let there : In (lookup u y.0) (dom y.1) = own_domain dom vars scope y (lookup u y.0) onces.0 at theirs in
             or_right (is_bound m y.0) (not (is_empty (dom y.1))) (not_from_false (is_empty (dom y.1)) (false_from_ne_true (is_empty (dom y.1)) (λ none. empty_is (dom y.1) none (lookup u y.0) there)))) in
             record {
               env = dropped vars m;
