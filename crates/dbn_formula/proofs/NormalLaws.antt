@@ -1,0 +1,80 @@
+-- The normal form, variant by variant.
+use Rattle.std.proofs.Common.{◌≡◌, ℕ, Bool, true, false, List, [], ◌∷◌, map, ap, ◌∙◌}
+use Rattle.dbn_formula.specs.Normal.{denied_cmp, normal_step, normal_at}
+use Rattle.dbn_formula.proofs.Maps.{map-map}
+use Rattle.dbn_value.specs.declared.term.Term.{Term}
+use Rattle.dbn_value.specs.declared.term.Cmp.{Cmp}
+use Rattle.dbn_formula.specs.Variables.{TypedVars}
+use Rattle.dbn_formula.specs.declared.formula.Formula.{Formula}
+use Rattle.dbn_formula.specs.declared.formula.Formula.TheVariants.{Atom, Test, And, Or, Not, Implies, Exists, Forall}
+use Rattle.dbn_formula.proofs.Folds.{fold_atom, fold_test, fold_and, fold_or, fold_not, fold_implies, fold_exists, fold_forall}
+
+pub kept_atom : (rel : ℕ) (terms : List Term) → normal_at (Atom rel terms) true ≡ Atom rel terms
+unfolding normal_at
+kept_atom rel terms = ap (λ h. h true) (fold_atom (Bool → Formula) normal_step rel terms)
+
+pub kept_test : (cmp : Cmp) (left right : Term) → normal_at (Test cmp left right) true ≡ Test cmp left right
+unfolding normal_at
+kept_test cmp left right = ap (λ h. h true) (fold_test (Bool → Formula) normal_step cmp left right)
+
+pub kept_and : (fs : List Formula) → normal_at (And fs) true ≡ And (map (λ f. normal_at f true) fs)
+unfolding normal_at
+kept_and fs = ap (λ h. h true) (fold_and (Bool → Formula) normal_step fs)
+    ∙ ap And (map-map (λ part. part true) normal_at fs)
+
+pub kept_or : (fs : List Formula) → normal_at (Or fs) true ≡ Or (map (λ f. normal_at f true) fs)
+unfolding normal_at
+kept_or fs = ap (λ h. h true) (fold_or (Bool → Formula) normal_step fs)
+    ∙ ap Or (map-map (λ part. part true) normal_at fs)
+
+pub kept_not : (f : Formula) → normal_at (Not f) true ≡ normal_at f false
+unfolding normal_at
+kept_not f = ap (λ h. h true) (fold_not (Bool → Formula) normal_step f)
+
+pub kept_implies : (f g : Formula) → normal_at (Implies f g) true ≡ Or (normal_at f false ∷ normal_at g true ∷ [])
+unfolding normal_at
+kept_implies f g = ap (λ h. h true) (fold_implies (Bool → Formula) normal_step f g)
+
+pub kept_exists : (vars : TypedVars) (f : Formula) → normal_at (Exists vars f) true ≡ Exists vars (normal_at f true)
+unfolding normal_at
+kept_exists vars f = ap (λ h. h true) (fold_exists (Bool → Formula) normal_step vars f)
+
+pub kept_forall : (vars : TypedVars) (f : Formula) → normal_at (Forall vars f) true ≡ Not (Exists vars (normal_at f false))
+unfolding normal_at
+kept_forall vars f = ap (λ h. h true) (fold_forall (Bool → Formula) normal_step vars f)
+
+pub denied_atom : (rel : ℕ) (terms : List Term) → normal_at (Atom rel terms) false ≡ Not (Atom rel terms)
+unfolding normal_at
+denied_atom rel terms = ap (λ h. h false) (fold_atom (Bool → Formula) normal_step rel terms)
+
+pub denied_test : (cmp : Cmp) (left right : Term) → normal_at (Test cmp left right) false ≡ Test (denied_cmp cmp) left right
+unfolding normal_at
+denied_test cmp left right = ap (λ h. h false) (fold_test (Bool → Formula) normal_step cmp left right)
+
+pub denied_and : (fs : List Formula) → normal_at (And fs) false ≡ Or (map (λ f. normal_at f false) fs)
+unfolding normal_at
+denied_and fs = ap (λ h. h false) (fold_and (Bool → Formula) normal_step fs)
+    ∙ ap Or (map-map (λ part. part false) normal_at fs)
+
+pub denied_or : (fs : List Formula) → normal_at (Or fs) false ≡ And (map (λ f. normal_at f false) fs)
+unfolding normal_at
+denied_or fs = ap (λ h. h false) (fold_or (Bool → Formula) normal_step fs)
+    ∙ ap And (map-map (λ part. part false) normal_at fs)
+
+pub denied_not : (f : Formula) → normal_at (Not f) false ≡ normal_at f true
+unfolding normal_at
+denied_not f = ap (λ h. h false) (fold_not (Bool → Formula) normal_step f)
+
+pub denied_implies : (f g : Formula) → normal_at (Implies f g) false ≡ And (normal_at f true ∷ normal_at g false ∷ [])
+unfolding normal_at
+denied_implies f g = ap (λ h. h false) (fold_implies (Bool → Formula) normal_step f g)
+
+pub denied_exists : (vars : TypedVars) (f : Formula) → normal_at (Exists vars f) false ≡ Not (Exists vars (normal_at f true))
+unfolding normal_at
+denied_exists vars f = ap (λ h. h false) (fold_exists (Bool → Formula) normal_step vars f)
+
+pub denied_forall : (vars : TypedVars) (f : Formula) → normal_at (Forall vars f) false ≡ Exists vars (normal_at f false)
+unfolding normal_at
+denied_forall vars f = ap (λ h. h false) (fold_forall (Bool → Formula) normal_step vars f)
+
+pub ruleset normal_laws = (kept_atom, kept_test, kept_and, kept_or, kept_not, kept_implies, kept_exists, kept_forall, denied_atom, denied_test, denied_and, denied_or, denied_not, denied_implies, denied_exists, denied_forall)

@@ -1,0 +1,13 @@
+pub mod Answers
+pub mod Apart
+pub mod Distinct
+pub mod Free
+pub mod Holds
+pub mod Normal
+pub mod Ready
+pub mod Safe
+pub mod Size
+pub mod Solutions
+pub mod Solve
+pub mod Typing
+pub mod Variables

@@ -1,0 +1,38 @@
+-- Variables and types: when two are the same, and lists of variables.
+use Rattle.std.specs.Prelude.{Bool, true, false, not, ◌&&◌, ◌==◌, List, [], ◌∷◌}
+use Rattle.std.specs.Ordering.{nat_cmp, is_eq}
+use Rattle.std.specs.Cmp.Lexicographic.{slice_cmp}
+use Rattle.std.specs.List.{list_any, filter}
+use Rattle.dbn_value.specs.declared.term.Var.{Var}
+use Rattle.dbn_value.specs.declared.value.ColType.{ColType}
+use Rattle.dbn_value.specs.declared.value.ColType.TheVariants as col
+
+abbrev pub TypedVars : Type 0
+TypedVars = List (Var × ColType)
+
+-- one name and one mark
+abbrev pub var_eq : Var → Var → Bool
+var_eq x y = is_eq (slice_cmp nat_cmp x.name y.name) && x.mark == y.mark
+
+abbrev pub type_eq : ColType → ColType → Bool
+type_eq col.Int col.Int = true
+type_eq col.Int col.Text = false
+type_eq col.Int col.Id = false
+type_eq col.Text col.Int = false
+type_eq col.Text col.Text = true
+type_eq col.Text col.Id = false
+type_eq col.Id col.Int = false
+type_eq col.Id col.Text = false
+type_eq col.Id col.Id = true
+
+abbrev pub is_in : Var → List Var → Bool
+is_in x xs = list_any (λ y. var_eq x y) xs
+
+-- one of the typed variables is x
+abbrev pub binds : TypedVars → Var → Bool
+binds vars x = list_any (λ y. var_eq x y.0) vars
+
+-- each once, in order of first occurrence
+abbrev pub firsts : List Var → List Var
+firsts [] = []
+firsts (x ∷ xs) = x ∷ filter (λ y. not (var_eq x y)) (firsts xs)

@@ -1,0 +1,17 @@
+//! Formulas over the relations of a net: what they mean, their normal form, their free variables and types, and which are safe.
+#![tactic(auto)]
+
+mod formula;
+mod laws;
+mod safety_laws;
+mod typing;
+
+pub use formula::{Formula, Formulas};
+pub use laws::{
+    answers_are_a_set, free_variables_decide, normal_again, normal_is_small, normal_keeps,
+};
+pub use safety_laws::{
+    arranging_keeps, renaming_keeps, safe_formulas_are_bounded, safe_formulas_are_solved,
+    solutions_are_sound_and_complete,
+};
+pub use typing::TypeFault;
