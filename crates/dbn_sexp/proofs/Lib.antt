@@ -1,0 +1,3 @@
+mod TokenExamples
+mod ReadingExamples
+pub mod TreeLaws
