@@ -7,7 +7,7 @@ use Rattle.dbn_sexp.specs.declared.sexp.Sexp.{Sexp}
 use Rattle.dbn_sexp.specs.declared.sexp.Item.{Item}
 use Rattle.dbn_sexp.specs.declared.sexp.Item.TheVariants as item
 use Rattle.dbn_sexp.specs.declared.sexp.Item.TheOpen as layer
-use Rattle.dbn_sexp.specs.declared.sexp.Item.TheFolds.{fold-Sexp}
+use Rattle.dbn_sexp.specs.declared.sexp.Item.TheFolds.{fold-Item}
 
 -- parts with one space between them
 abbrev pub spaced : List (List ℕ) → List ℕ
@@ -20,12 +20,12 @@ text_step (layer.Name name) = name
 text_step (layer.Const value) = spelling value
 text_step (layer.List parts) = 40 ∷ spaced parts ++ 41 ∷ []
 
-unfoldable pub sexp_text : Sexp → List ℕ
-sexp_text one = fold-Sexp (List ℕ) (List ℕ) text_step (λ part. part.item) one
+unfoldable pub item_text : Item → List ℕ
+item_text one = fold-Item (List ℕ) (List ℕ) text_step (λ part. part.item) one
 
 -- each item on one line
 abbrev pub text : List Sexp → List ℕ
-text list = flat_map (λ one. sexp_text one ++ 10 ∷ []) list
+text list = flat_map (λ one. item_text one.item ++ 10 ∷ []) list
 
 abbrev pub largest : List ℕ → ℕ
 largest [] = 0
@@ -37,8 +37,8 @@ nesting_step (layer.Name name) = 0
 nesting_step (layer.Const value) = 0
 nesting_step (layer.List parts) = largest parts + 1
 
-unfoldable pub nesting : Sexp → ℕ
-nesting one = fold-Sexp ℕ ℕ nesting_step (λ part. part.item) one
+unfoldable pub nesting : Item → ℕ
+nesting one = fold-Item ℕ ℕ nesting_step (λ part. part.item) one
 
 -- the names and constants in it, in order
 abbrev pub atoms_step : layer.Item-F (List Item) (List Item) → List Item
@@ -46,8 +46,8 @@ atoms_step (layer.Name name) = item.Name name ∷ []
 atoms_step (layer.Const value) = item.Const value ∷ []
 atoms_step (layer.List parts) = flat_map (λ part. part) parts
 
-unfoldable pub atoms : Sexp → List Item
-atoms one = fold-Sexp (List Item) (List Item) atoms_step (λ part. part.item) one
+unfoldable pub atoms : Item → List Item
+atoms one = fold-Item (List Item) (List Item) atoms_step (λ part. part.item) one
 
 -- a name, or a value in the range of its type
 abbrev pub IsAtom : Item → Type 0
@@ -55,10 +55,13 @@ IsAtom (item.Name name) = IsName name
 IsAtom (item.Const value) = IsValue value
 IsAtom (item.List' shape parts) = ⊥
 
--- what a list is that can be printed and read: its names and constants are in form, and no part is nested too deep
-pub record Printable (depth : ℕ) (list : List Sexp) : Type 0 where
-  pub atoms_in_form : AllByRecursion IsAtom (flat_map atoms list)
-  pub within_depth : AllByRecursion (λ one. nesting one ≤ depth) list
+-- the names and constants of a list are in form
+abbrev pub HasAtoms : List Sexp → Type 0
+HasAtoms list = AllByRecursion IsAtom (flat_map (λ one. atoms one.item) list)
+
+-- no parenthesis of the list opens inside `depth` others
+abbrev pub IsWithinDepth : ℕ → List Sexp → Type 0
+IsWithinDepth depth list = AllByRecursion (λ one. nesting one.item ≤ depth) list
 
 -- the same with all its parts on one line
 abbrev pub line_step : layer.Item-F Item Sexp → Item
@@ -66,10 +69,10 @@ line_step (layer.Name name) = item.Name name
 line_step (layer.Const value) = item.Const value
 line_step (layer.List parts) = item.List parts
 
-unfoldable pub on_line : ℕ → Sexp → Sexp
-on_line line one = fold-Sexp Item Sexp line_step (λ part. record { line = line; item = part.item }) one
+unfoldable pub on_line : ℕ → Item → Item
+on_line line one = fold-Item Item Sexp line_step (λ part. record { line = line; item = part.item }) one
 
--- the items on lines of their own, from a line on
+-- the items one by one on lines of their own, from a line on
 abbrev pub on_lines : ℕ → List Sexp → List Sexp
 on_lines line [] = []
-on_lines line (one ∷ list) = on_line line one ∷ on_lines (line + 1) list
+on_lines line (one ∷ list) = record { line = line; item = on_line line one.item } ∷ on_lines (line + 1) list

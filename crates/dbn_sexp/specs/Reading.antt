@@ -18,9 +18,12 @@ pub record Fault : Type 0 where
 abbrev pub fault : {A : Type 0} → ℕ → SexpKind → Result A Fault
 fault line kind = Err (record { line = line; kind = kind })
 
+abbrev pub constant_of : List ℕ → Option Item
+constant_of bytes = option_map item.Const (value_of_bytes bytes)
+
 -- a word or a text is a name or an operator, or the spelling of a value
 unfoldable pub item_of : List ℕ → Option Item
-item_of bytes = if is_name bytes then Some (item.Name bytes) else option_map item.Const (value_of_bytes bytes)
+item_of bytes = if is_name bytes then Some (item.Name bytes) else constant_of bytes
 
 -- the lists that are open, the innermost first, and the items so far of the innermost one
 pub record State : Type 0 where
@@ -43,11 +46,15 @@ opened depth line state =
     if nat_le depth (length state.open_lists) then fault line Deep
     else Ok (record { open_lists = record { line = line; before = state.items } ∷ state.open_lists; items = [] })
 
+-- a name or a constant is one more item
+abbrev pub added : ℕ → List ℕ → State → Result State Fault
+added line bytes state = option_map_or (λ one. Ok (with_item (sexp line one) state)) (item_of bytes) (fault line BadToken)
+
 -- one token of a line
 abbrev pub step : ℕ → ℕ → Kind → State → Result State Fault
 step depth line Open state = opened depth line state
 step depth line Close state = closed line state.open_lists state.items
-step depth line (Atom bytes) state = option_map_or (λ one. Ok (with_item (sexp line one) state)) (item_of bytes) (fault line BadToken)
+step depth line (Atom bytes) state = added line bytes state
 
 infixl 10 ◌>>=◌
 abbrev pub ◌>>=◌ : {A B : Type 0} → Result A Fault → (A → Result B Fault) → Result B Fault
@@ -55,7 +62,7 @@ abbrev pub ◌>>=◌ : {A B : Type 0} → Result A Fault → (A → Result B Fau
 (Err e) >>= f = Err e
 
 -- all tokens, one after the other, up to the first fault
-abbrev pub after : ℕ → List Token → State → Result State Fault
+unfoldable pub after : ℕ → List Token → State → Result State Fault
 after depth [] state = Ok state
 after depth (token ∷ more) state = step depth token.line token.kind state >>= after depth more
 

@@ -38,14 +38,18 @@ more b bytes =
     else if ends_word b then 0
     else position_or_len ends_word bytes
 
--- the token that these bytes are; white space and comments are none
-unfoldable pub token_of : ℕ → List ℕ → List Token
-token_of line [] = []
-token_of line (b ∷ bytes) =
-    if is_blank b || b == 59 then []
-    else if b == 40 then record { line = line; kind = Open } ∷ []
-    else if b == 41 then record { line = line; kind = Close } ∷ []
-    else record { line = line; kind = Atom (b ∷ bytes) } ∷ []
+-- how many bytes the token, comment or blank takes that stands first
+abbrev pub piece_len : List ℕ → ℕ
+piece_len [] = 0
+piece_len (b ∷ bytes) = 1 + more b bytes
+
+-- the token with this first byte and these bytes, the first one counted; white space and comments are none
+unfoldable pub token_of : ℕ → ℕ → List ℕ → List Token
+token_of line first bytes =
+    if is_blank first || first == 59 then []
+    else if first == 40 then record { line = line; kind = Open } ∷ []
+    else if first == 41 then record { line = line; kind = Close } ∷ []
+    else record { line = line; kind = Atom bytes } ∷ []
 
 -- the line of the byte behind b
 abbrev pub line_after : ℕ → ℕ → ℕ
@@ -54,5 +58,5 @@ line_after line b = if is_line_feed b then line + 1 else line
 -- the tokens of bytes that begin on a line; the first `skip` of them belong to a token or comment before
 unfoldable pub tokens : ℕ → ℕ → List ℕ → List Token
 tokens line skip [] = []
-tokens line zero (b ∷ bytes) = token_of line (b ∷ take (more b bytes) bytes) ++ tokens (line_after line b) (more b bytes) bytes
+tokens line zero (b ∷ bytes) = token_of line b (b ∷ take (more b bytes) bytes) ++ tokens (line_after line b) (more b bytes) bytes
 tokens line (suc skip) (b ∷ bytes) = tokens (line_after line b) skip bytes

@@ -2,8 +2,15 @@
 #![tactic(auto)]
 
 mod fault;
+mod printing;
 mod reading;
+mod scanning;
 mod sexp;
 
 pub use fault::{SexpFault, SexpKind};
+pub use printing::{print, text_is_read_again};
+pub use reading::read_all;
 pub use sexp::{Item, Sexp, SexpList};
+
+#[cfg(test)]
+mod tests;
