@@ -1,0 +1,7 @@
+mod TokenExamples
+mod ReadingExamples
+pub mod AtomLaws
+pub mod PrintLaws
+pub mod ReadLaws
+pub mod ScanLaws
+pub mod TreeLaws
