@@ -22,6 +22,10 @@ answered-more old mid now whole due reply rest so_far split more = record {
   appended = Appends-trans old mid now so_far.front reply so_far.appended more;
 }
 
+-- what was written so far is a front of all
+pub answered-so_far : (old now : Option (List ℕ)) (whole rest : List ℕ) → Answered old now whole rest → AppendsFront old now whole
+answered-so_far old now whole rest so_far = (so_far.front, rest, so_far.split, so_far.appended)
+
 -- a front of one more reply was written
 pub answered-front : (old mid now : Option (List ℕ)) (whole due reply rest : List ℕ) → Answered old mid whole due → due ≡ reply ++ rest → AppendsFront mid now reply → AppendsFront old now whole
 answered-front old mid now whole due reply rest so_far split more = (
@@ -37,7 +41,7 @@ answered-all old now whole rest so_far none =
     subst (λ l. Appends old now l) (sym (so_far.split ∙ ap (λ l. so_far.front ++ l) none ∙ append-nil so_far.front)) so_far.appended
 
 -- the text of a run over a line and more lines
-pub text-next : {State Line : Type 0} (step : State → Line → Step State) (state next : State) (whole rest : List Line) (line : Line)
-    → whole ≡ line ∷ rest → next ≡ (step state line).next → text_of step state whole ≡ (step state line).reply ++ text_of step next rest
-text-next step state next whole rest line split is =
-    ap (λ l. text_of step state l) split ∙ ap (λ s. (step state line).reply ++ text_of step s rest) (sym is)
+pub text-next : {State Line : Type 0} (step : State → Line → Step State) (state next : State) (whole rest : List Line) (line : Line) (reply : List ℕ)
+    → whole ≡ line ∷ rest → next ≡ (step state line).next → reply ≡ (step state line).reply → text_of step state whole ≡ reply ++ text_of step next rest
+text-next step state next whole rest line reply split is said =
+    ap (λ l. text_of step state l) split ∙ ap (λ s. (step state line).reply ++ text_of step s rest) (sym is) ∙ ap (λ l. l ++ text_of step next rest) (sym said)

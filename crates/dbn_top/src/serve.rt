@@ -1,6 +1,6 @@
 //! The replies to all lines of the commands.
 
-ghost use Rattle.std.specs.Prelude.{◌≡◌, ◌+◌, ◌-◌, ◌^◌, ◌<◌, ◌≤◌, OnErr, OnOk, length};
+ghost use Rattle.std.specs.Prelude.{◌≡◌, ◌+◌, ◌-◌, ◌^◌, ◌<◌, ◌≤◌, IfOk, OnErr, OnOk, length};
 ghost use Rattle.std.specs.Io.KnownBytes.{Appends};
 ghost use Rattle.dbn_io.specs.Causes.{HasCause};
 ghost use Rattle.dbn_model.specs.Commands.{run_text, step};
@@ -12,7 +12,7 @@ use crate::line::{Line, first_line};
 use crate::net::Net;
 use crate::state::State;
 use dbn_io::{Sink, Trouble, write_whole};
-use std::alloc::Global;
+use std::alloc::{AllocError, Global};
 
 /// Runs a net over the lines of `commands`, and writes the reply to each. After an error a front of the replies was
 /// written; `Failed` comes only where the count of faults rose.
@@ -33,7 +33,10 @@ pub(crate) fn serve_all<K: Sink>(
     let mut rest = commands;
     'lines: while !rest.is_empty() {
         let (line, after) = first_line(rest);
-        match serve_one(alloc, &mut state, line, out) {
+        let Ok(reply) = answer(alloc, &mut state, line) else {
+            return Err(Trouble::Memory);
+        };
+        match write_whole(out, reply.as_slice()) {
             Ok(()) => rest = after,
             Err(trouble) => return Err(trouble),
         }
@@ -41,29 +44,14 @@ pub(crate) fn serve_all<K: Sink>(
     Ok(())
 }
 
-// Obeys one line, and writes the reply to it.
-fn serve_one<K: Sink>(
-    alloc: Global,
-    state: &mut State,
-    line: Line,
-    out: &mut K,
-) -> Result<(), Trouble>
+// Obeys one line, and gives the reply to it.
+fn answer(alloc: Global, state: &mut State, line: Line) -> Result<Vec<u8>, AllocError>
     requires { state.old.fired < 2 ^ 64 - 1 }
-    ensures all { OnOk result (Appends (K.taken out.old) (K.taken out.new) (step state.old (line_view line.entry)).reply) }
-    ensures next { OnOk result (state.new ≡ (step state.old (line_view line.entry)).next) }
-    ensures count { OnOk result (state.new.fired ≤ state.old.fired + 1) }
-    ensures part { OnErr result (AppendsFront (K.taken out.old) (K.taken out.new) (step state.old (line_view line.entry)).reply) }
-    ensures told { SameTold (K.taken out.old) (K.taken out.new) }
-    ensures cause { HasCause (K.faults out.old) (K.faults out.new) result }
+    ensures reply { IfOk result (λ reply. reply.items ≡ (step state.old (line_view line.entry)).reply) }
+    ensures next { IfOk result (λ _. state.new ≡ (step state.old (line_view line.entry)).next) }
+    ensures count { IfOk result (λ _. state.new.fired ≤ state.old.fired + 1) }
 {
-    let Ok(command) = Command::of(alloc, line) else {
-        return Err(Trouble::Memory);
-    };
-    let Ok(reply) = state.obey(alloc, command) else {
-        return Err(Trouble::Memory);
-    };
-    let Ok(text) = reply.text(alloc) else {
-        return Err(Trouble::Memory);
-    };
-    write_whole(out, text.as_slice())
+    let command = Command::of(alloc, line)?;
+    let reply = state.obey(alloc, command)?;
+    reply.text(alloc)
 }
