@@ -1,5 +1,5 @@
 -- Laws of the text of a net: what is written is read again, so a text is that of one list of declarations.
-use Rattle.std.proofs.Common.{◌≡◌, ◌≢◌, ℕ, zero, suc, lit<, ◌<◌, ◌≤◌, ◌+◌, ◌%◌, ◌^◌, Bool, true, false, cond, ◌&&◌, ◌==◌, List, [], ◌∷◌, ◌++◌, length, get_or, Option, None, Some, Result, Ok, Err, Bor, refl, sym, ap, ◌∙◌, subst, append_assoc, arith, length-append}
+use Rattle.std.proofs.Common.{◌≡◌, ◌≢◌, ℕ, zero, suc, lit<, ◌<◌, ◌≤◌, ◌+◌, ◌%◌, ◌^◌, Bool, true, false, cond, ◌&&◌, ◌==◌, List, [], ◌∷◌, ◌++◌, length, get_or, Option, None, Some, Result, Ok, Err, Bor, refl, sym, ap, ◌∙◌, subst, append_assoc, arith}
 use Rattle.std.specs.Prelude.{IsTrue, codes, decimal, flat_map, bytes_eq, nat_le, MatchOption, IfSome}
 use Rattle.std.proofs.Math.Bool.{and-true, and-false}
 use Rattle.std.specs.List.{list_all, AllByRecursion}
@@ -9,12 +9,12 @@ use Rattle.std.proofs.lemmas.Bool.Decides.{nat_tests}
 use Rattle.std.proofs.lemmas.Fmt.{decimal_by_steps, decimal_is_IsNumeral, first_decimal, IsAscii-decimal, parse-decimal, decimal-digits_value, decimal_digit}
 use Rattle.std.proofs.lemmas.Str.{IsUtf8-from_ascii}
 use Rattle.std.proofs.lemmas.Str.Parse.{parse_plain, numerals_by_value, tells_digits}
-use Rattle.std.proofs.lemmas.List.{take_at, drop_at, flat_map_more}
+use Rattle.std.proofs.lemmas.List.{take_at, drop_at}
 use Rattle.std.proofs.lemmas.Option.{none-some, some_pair_parts}
 use Rattle.std.proofs.lemmas.List.Folds.{list_all-append}
 use Rattle.std.proofs.lemmas.Slice.Eq.{bytes_eq-Decides}
 use Rattle.dbn_model.specs.Nets.{Clause, DeclaresPlace, DeclaresTokens, DeclaresTransition, is_letter, is_name, is_name_byte, is_count, clause_text, declaration_text}
-use Rattle.dbn_model.specs.NetText.{after, word_len, name_at, count_of, count_at, named_at, counted_at, counted_text, clause_at, tokens_at, place_at, IsFit, Stands, NoTransition, ReadsClauses}
+use Rattle.dbn_model.specs.NetText.{after, word_len, name_at, count_of, count_at, named_at, counted_at, counted_text, clause_at, tokens_at, place_at, IsFit, NoTransition, ReadsClauses}
 
 both : {p q : Bool} → (p && q) ≡ true → (p ≡ true) × (q ≡ true)
 both {p = true} {q = q} e = (refl, e)
@@ -185,38 +185,6 @@ place_again name rest named =
     ap place_at (regroup_name (codes "(place ") name (codes ")\n") rest)
     ∙ rw (named_again (codes "(place ") name (codes ")\n" ++ rest) named refl) refl
 
--- What was read of a text stands there.
-
-pub clause_stands : (bytes : List ℕ) (clause : Clause) (rest : List ℕ)
-    → bytes ≡ counted_text (codes " (in ") (codes " (") (codes "))") clause rest → bytes ≡ clause_text clause ++ rest
-clause_stands bytes clause rest is = is ∙ sym (regroup (codes " (in ") clause.place (codes " (") (decimal clause.many) (codes "))") rest)
-
-pub tokens_stand : (bytes : List ℕ) (clause : Clause) (rest : List ℕ) → IsFit clause
-    → bytes ≡ counted_text (codes "(token ") (codes " ") (codes ")\n") clause rest → Stands bytes (DeclaresTokens clause.place clause.many) rest
-tokens_stand bytes clause rest fit is = record { fit = fit; text = is ∙ sym (regroup (codes "(token ") clause.place (codes " ") (decimal clause.many) (codes ")\n") rest) }
-
-pub place_stands : (bytes name inner rest : List ℕ) → IsTrue (is_name name) → bytes ≡ codes "(place " ++ (name ++ inner) → inner ≡ codes ")\n" ++ rest
-    → Stands bytes (DeclaresPlace name) rest
-place_stands bytes name inner rest named is end = record {
-  fit = named;
-  text = is ∙ ap (λ l. codes "(place " ++ (name ++ l)) end ∙ sym (regroup_name (codes "(place ") name (codes ")\n") rest);
-}
-
-pub transition_stands : (bytes name inner : List ℕ) (clauses : List Clause) (end rest : List ℕ) → IsTrue (is_name name) → bytes ≡ codes "(transition " ++ (name ++ inner)
-    → ReadsClauses inner clauses end → end ≡ codes ")\n" ++ rest → Stands bytes (DeclaresTransition name clauses) rest
-transition_stands bytes name inner clauses end rest named is reads stop = record {
-  fit = (named, reads.fit);
-  text = is
-      ∙ ap (λ l. codes "(transition " ++ (name ++ l)) (reads.text ∙ ap (λ l. flat_map clause_text clauses ++ l) stop)
-      ∙ sym (regroup_transition (codes "(transition ") name (flat_map clause_text clauses) (codes ")\n") rest);
-}
-
--- what a name and a count leave is shorter
-pub counted_shorter : (front middle end bytes : List ℕ) (clause : Clause) (rest : List ℕ) → 0 < length front
-    → bytes ≡ counted_text front middle end clause rest → length rest < length bytes
-counted_shorter front middle end bytes clause rest filled is =
-    omega (arith, ap length is, length-append front (clause.place ++ (middle ++ (decimal clause.many ++ (end ++ rest)))), length-append clause.place (middle ++ (decimal clause.many ++ (end ++ rest))), length-append middle (decimal clause.many ++ (end ++ rest)), length-append (decimal clause.many) (end ++ rest), length-append end rest)
-
 -- Clauses.
 
 pub clause_none_at_end : (rest : List ℕ) → clause_at (codes ")\n" ++ rest) ≡ None
@@ -241,20 +209,6 @@ one_list_of_clauses (x ∷ xs) (y ∷ ys) r s fx fy nr ns e =
     let same = some_pair_parts x y (flat_map clause_text xs ++ r) (flat_map clause_text ys ++ s) (sym (front_clause x xs r fx.0) ∙ ap clause_at e ∙ front_clause y ys s fy.0) in
     let others = one_list_of_clauses xs ys r s fx.1 fy.1 nr ns same.1 in
     (cc (same.0, others.0), others.1)
-
-pub clauses_more : (bytes : List ℕ) (clauses : List Clause) (clause : Clause) (inner rest : List ℕ)
-    → AllByRecursion IsFit clauses → bytes ≡ flat_map clause_text clauses ++ inner → IsFit clause → inner ≡ clause_text clause ++ rest
-    → AllByRecursion IsFit (clauses ++ clause ∷ []) × (bytes ≡ flat_map clause_text (clauses ++ clause ∷ []) ++ rest)
-clauses_more bytes clauses clause inner rest fit is new text = (
-  all_more clauses clause fit new,
-  is ∙ ap (λ l. flat_map clause_text clauses ++ l) text
-      ∙ sym (append_assoc (flat_map clause_text clauses) (clause_text clause) rest)
-      ∙ ap (λ l. l ++ rest) (flat_map_more clause_text [] clauses clause),
-)
-  where
-    all_more : (clauses : List Clause) (clause : Clause) → AllByRecursion IsFit clauses → IsFit clause → AllByRecursion IsFit (clauses ++ clause ∷ [])
-    all_more [] clause fit new = (new, tt)
-    all_more (x ∷ clauses) clause fit new = (fit.0, all_more clauses clause fit.1 new)
 
 -- Transitions.
 

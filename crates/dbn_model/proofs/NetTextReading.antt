@@ -1,11 +1,11 @@
 -- Laws of reading a net: declaration by declaration, and the text of a net is that of no other net.
-use Rattle.std.proofs.Common.{◌≡◌, ℕ, ◌+◌, ◌<◌, ◌≤◌, Bool, true, false, cond, ◌&&◌, List, [], ◌∷◌, ◌++◌, length, Option, None, Some, refl, sym, ap, ◌∙◌, append_assoc, append-nil, drop, get_or, subst, set, arith, length-append}
+use Rattle.std.proofs.Common.{◌≡◌, ℕ, ◌<◌, Bool, true, false, cond, ◌&&◌, List, [], ◌∷◌, ◌++◌, length, Option, None, Some, refl, sym, ap, ◌∙◌, set, arith, length-append}
 use Rattle.std.specs.Prelude.{IsTrue, ◌==◌, codes, flat_map, option_map, option_and_then, slice_get, is_none, nat_lt, is_none}
 use Rattle.std.specs.List.{AllByRecursion}
-use Rattle.std.proofs.lemmas.List.{append_cancel_left, at_drop_more, at_drop_all}
+use Rattle.std.proofs.lemmas.List.{append_cancel_left}
 use Rattle.std.proofs.lemmas.Option.{none-some, same_Some, some_pair_parts}
 use Rattle.dbn_model.specs.Nets.{Arc, Clause, Declaration, DeclaresPlace, DeclaresTokens, DeclaresTransition, Net, Reads, ReadsNone, IsSpelled, empty_net, is_name, is_count, clause_text, declaration_text, net_text, declare, declare_all, place_of, transition_of, most_of_a_kind, give, add_tokens_at, add_tokens, arcs_of, arc_of}
-use Rattle.dbn_model.specs.NetText.{named_at, counted_at, tokens_at, place_at, IsFit, IsFitDeclaration, Stands, NoTransition, ArcsSoFar, ReadSoFar, Declares, DeclaresNone, ReadsInto}
+use Rattle.dbn_model.specs.NetText.{named_at, counted_at, tokens_at, place_at, IsFit, IsFitDeclaration, Stands, NoTransition, ReadSoFar, Declares, DeclaresNone, ReadsInto}
 use Rattle.dbn_model.proofs.NetTextLaws.{place_again, tokens_again, head_again, one_list_of_clauses, clause_none_at_end}
 
 -- What a net takes is fit.
@@ -58,44 +58,6 @@ spelled_where_fit (DeclaresTransition name ins) fit = (fit.0, each ins fit.1)
     each : (ins : List Clause) → AllByRecursion IsFit ins → AllByRecursion (λ clause. IsTrue (is_name clause.place)) ins
     each [] all = tt
     each (clause ∷ ins) all = (all.0.0, each ins all.1)
-
--- The arcs of clauses, one by one.
-
-pub arcs_start : (net : Net) (clauses : List Clause) → AllByRecursion IsFit clauses → ArcsSoFar net clauses [] clauses
-arcs_start net clauses fit = record { fit = fit; whole = same (arcs_of net clauses) }
-  where
-    same : (arcs : Option (List Arc)) → arcs ≡ option_map (λ others. [] ++ others) arcs
-    same None = refl
-    same (Some arcs) = refl
-
-pub arcs_at : (net : Net) (clauses : List Clause) (arcs : List Arc) (index : ℕ) (clause : Clause) → index < length clauses → clause ≡ get_or clauses index clause
-    → ArcsSoFar net clauses arcs (drop index clauses) → ArcsSoFar net clauses arcs (clause ∷ drop (index + 1) clauses)
-arcs_at net clauses arcs index clause within is so_far =
-    let e : drop index clauses ≡ clause ∷ drop (index + 1) clauses =
-    at_drop_more (λ l. l) clauses index clause within ∙ ap (λ (first : Clause). first ∷ drop (index + 1) clauses) (sym is) in
-    subst (ArcsSoFar net clauses arcs) e so_far
-
-pub arcs_more : (net : Net) (clauses : List Clause) (arcs : List Arc) (clause : Clause) (left : List Clause) (place : ℕ)
-    → ArcsSoFar net clauses arcs (clause ∷ left) → place_of net clause.place ≡ Some place
-    → ArcsSoFar net clauses (arcs ++ record { place = place; many = clause.many } ∷ []) left
-arcs_more net clauses arcs clause left place so_far found = record {
-  fit = so_far.fit.1;
-  whole = so_far.whole ∙ rw (so_far.fit.0.1, found) (push arcs (record { place = place; many = clause.many }) (arcs_of net left));
-}
-  where
-    push : (arcs : List Arc) (arc : Arc) (others : Option (List Arc))
-        → option_map (λ all. arcs ++ all) (option_map (λ all. arc ∷ all) others) ≡ option_map (λ all. (arcs ++ arc ∷ []) ++ all) others
-    push arcs arc None = refl
-    push arcs arc (Some others) = ap Some (sym (append_assoc arcs (arc ∷ []) others))
-
-pub arcs_none : (net : Net) (clauses : List Clause) (arcs : List Arc) (clause : Clause) (left : List Clause)
-    → ArcsSoFar net clauses arcs (clause ∷ left) → place_of net clause.place ≡ None → arcs_of net clauses ≡ None
-arcs_none net clauses arcs clause left so_far none = so_far.whole ∙ rw (so_far.fit.0.1, none) refl
-
-pub arcs_end : (net : Net) (clauses : List Clause) (arcs : List Arc) (index : ℕ) → length clauses ≤ index → ArcsSoFar net clauses arcs (drop index clauses) → arcs_of net clauses ≡ Some arcs
-arcs_end net clauses arcs index past so_far =
-    let last : ArcsSoFar net clauses arcs [] = subst (ArcsSoFar net clauses arcs) (at_drop_all (λ l. l) clauses index past) so_far in
-    last.whole ∙ ap Some (append-nil arcs)
 
 -- One declaration stands at the front of a text.
 
@@ -167,9 +129,6 @@ into_parts net whole bytes ([], spelled, text, taken) filled = absurd (omega (ar
 into_parts net whole bytes (declaration ∷ declarations, spelled, text, taken) filled =
     let first = bind_some (λ next. declare_all next declarations) (declare net declaration) whole taken in
     (first.0, net_text declarations, (declaration, record { fit = fit_where_taken net first.0 declaration spelled.0 first.1; text = text }, first.1), (declarations, spelled.1, refl, first.2))
-
-pub read_start : (bytes : List ℕ) → ReadSoFar bytes empty_net bytes
-read_start bytes = record { to = λ whole reads. reads; from = λ whole reads. reads }
 
 pub read_more : (bytes : List ℕ) (net next : Net) (inner rest : List ℕ) → ReadSoFar bytes net inner → Declares net inner next rest → ReadSoFar bytes next rest
 read_more bytes net next inner rest so_far found = record { to = λ whole reads. so_far.to whole (to whole reads); from = λ whole reads. from whole (so_far.from whole reads) }

@@ -54,8 +54,8 @@ fn all_name_bytes(bytes: &[u8]) -> bool
     bytes.iter().all(|byte| is_name_byte(*byte))
 }
 
-#[tactic(auto, using(dbn_model::proofs::NetTextLaws::name_letter, dbn_model::proofs::NetTextLaws::name_long, dbn_model::proofs::NetTextLaws::name_bytes))]
 /// Whether the bytes are a name: a letter and then name bytes, 64 bytes at most.
+#[tactic(auto, using(dbn_model::proofs::NetTextLaws::name_letter, dbn_model::proofs::NetTextLaws::name_long, dbn_model::proofs::NetTextLaws::name_bytes))]
 pub(crate) fn is_name(bytes: &[u8]) -> bool
     ensures { result ≡ nets.is_name bytes.now }
 {
@@ -93,8 +93,8 @@ fn word_at(bytes: &[u8]) -> (&[u8], &[u8])
     bytes.split_at(word_len(bytes))
 }
 
-#[tactic(auto, unfolding(dbn_model::specs::NetText::named_at, dbn_model::specs::NetText::name_at))]
 /// The name behind that front, and the bytes after it.
+#[tactic(auto, unfolding(dbn_model::specs::NetText::named_at, dbn_model::specs::NetText::name_at))]
 pub(crate) fn named_at<'a>(front: &[u8], bytes: &'a [u8]) -> Option<(&'a [u8], &'a [u8])>
     ensures exact { MatchOption result (text.named_at front.now bytes.now ≡ None) (λ found. text.named_at front.now bytes.now ≡ Some (found.0.now, found.1.now)) }
     ensures found { IfSome result (λ found. IsTrue (nets.is_name found.0.now) × (bytes.now ≡ front.now ++ (found.0.now ++ found.1.now))) }
@@ -124,8 +124,8 @@ fn count_of(word: &[u8]) -> Option<u32>
     }
 }
 
-#[tactic(auto, unfolding(dbn_model::specs::NetText::counted_at, dbn_model::specs::NetText::count_at))]
 /// A name and a count between the three texts, and the bytes after them.
+#[tactic(auto, unfolding(dbn_model::specs::NetText::counted_at, dbn_model::specs::NetText::count_at))]
 pub(crate) fn counted_at<'a>(
     front: &[u8],
     middle: &[u8],
