@@ -1,5 +1,5 @@
 -- What text is due, once the net was read.
-use Rattle.std.proofs.Common.{◌≡◌, ℕ, ◌⊎◌, List, [], ◌++◌, Option, Some, None, Result, Ok, IfOk, IfSome, MatchOption, inl, inr, refl, sym, ap, subst, ◌∙◌, append-nil}
+use Rattle.std.proofs.Common.{◌≡◌, ℕ, List, ◌++◌, Option, Some, None, Result, Ok, IfOk, IfSome, MatchOption, inl, inr, sym, ap, subst, ◌∙◌, append-nil}
 use Rattle.std.specs.Io.KnownBytes.{Appends}
 use Rattle.dbn_model.specs.Content.{AppendsFront}
 use Rattle.dbn_model.specs.Nets.{Net, Reads, ReadsNone}

@@ -1,6 +1,6 @@
 -- The words that are one given word.
 use Rattle.std.proofs.Common.{◌≡◌, ◌<◌, ◌≤◌, ℕ, Bool, IsTrue, List, [], ◌∷◌, length, map, sym, ap, ◌∙◌, arith}
-use Rattle.std.specs.Prelude.{String, string_bytes, slice_index_or, bytes_eq, Decides}
+use Rattle.std.specs.Prelude.{String, string_bytes, slice_index_or, bytes_eq}
 use Rattle.std.proofs.lemmas.Slice.Eq.{bytes_eq-Decides}
 
 -- a test of the one word against a given one decides whether the words are that one

@@ -1,5 +1,5 @@
 -- The words that name a verb.
-use Rattle.std.specs.Prelude.{◌≡◌, ℕ, List, [], ◌∷◌, ◌++◌, map, codes, String, string_bytes}
+use Rattle.std.specs.Prelude.{◌≡◌, ℕ, List, [], ◌∷◌, map, codes, String, string_bytes}
 
 -- the one word `try`
 abbrev pub IsTry : {A : Type 0} → List (String A) → Type 0

@@ -1,4 +1,4 @@
-use Rattle.std.proofs.Common.{◌≤◌, length, arith}
+use Rattle.std.proofs.Common.{arith}
 use Rattle.dbn_model.proofs.LineLaws.{line_of-return, line_of-plain}
 use Rattle.dbn_top.proofs.line.Line.of.Goals as goal
 
