@@ -1,1 +1,4 @@
+pub mod FeedLaws
+pub mod LineLaws
+pub mod ReadingLaws
 pub mod Writes

@@ -3,6 +3,8 @@
 
 mod file;
 mod limits;
+mod line_so_far;
+mod lines;
 mod lists;
 mod memory;
 mod pieces;
@@ -14,10 +16,12 @@ mod take;
 #[cfg(test)]
 mod tests;
 mod trouble;
+mod window;
 mod write;
 
 pub use file::LazyFileSource;
 pub use limits::Limits;
+pub use lines::{Line, Lines};
 pub use lists::{Bytes, Calls};
 pub use memory::{MemSink, MemSource};
 pub use plan::FaultPlan;

@@ -1,5 +1,7 @@
 //! What no clause says: that calls succeed, and what the real objects do.
 
+mod lines;
+
 use crate::{
     Bytes, Calls, LazyFileSource, Limits, MemSink, MemSource, ReadStop, Sink, Source, StdSink,
     StdSource, Trouble, take_all, write_whole,
