@@ -1,5 +1,5 @@
 -- The free variables of a formula, variant by variant.
-use Rattle.std.proofs.Common.{◌≡◌, ℕ, List, ◌++◌, ◌∙◌}
+use Rattle.std.proofs.Common.{append_assoc, ◌≡◌, ℕ, List, ◌++◌, ◌∙◌}
 use Rattle.std.specs.List.{flat_map}
 use Rattle.std.proofs.lemmas.List.Folds.{flat_map-map}
 use Rattle.dbn_value.specs.declared.term.Var.{Var}
@@ -46,3 +46,5 @@ unfolding occurrences
 occurrences_forall vars f = fold_forall (List Var) occurrences_step vars f
 
 pub ruleset occurrences_laws = (occurrences_atom, occurrences_test, occurrences_and, occurrences_or, occurrences_not, occurrences_implies, occurrences_exists, occurrences_forall)
+
+pub ruleset joining = (append_assoc)

@@ -8,6 +8,7 @@ pub mod Depends
 pub mod DistinctLaws
 pub mod Environments
 pub mod Examples
+pub mod Firsts
 pub mod Folds
 pub mod FreeLaws
 pub mod HoldsLaws
@@ -31,5 +32,6 @@ pub mod SolveLaws
 pub mod Solved
 pub mod Tests
 pub mod TypesKept
+pub mod TypeFaults
 pub mod TypingLaws
 pub mod VariableLaws

@@ -1,5 +1,5 @@
 -- The normal form, variant by variant.
-use Rattle.std.proofs.Common.{◌≡◌, ℕ, Bool, true, false, List, [], ◌∷◌, map, ap, ◌∙◌}
+use Rattle.std.proofs.Common.{cond, not, ◌≡◌, ℕ, Bool, true, false, List, [], ◌∷◌, map, ap, ◌∙◌}
 use Rattle.dbn_formula.specs.Normal.{denied_cmp, normal_step, normal_at}
 use Rattle.dbn_formula.proofs.Maps.{map-map}
 use Rattle.dbn_value.specs.declared.term.Term.{Term}
@@ -78,3 +78,45 @@ unfolding normal_at
 denied_forall vars f = ap (λ h. h false) (fold_forall (Bool → Formula) normal_step vars f)
 
 pub ruleset normal_laws = (kept_atom, kept_test, kept_and, kept_or, kept_not, kept_implies, kept_exists, kept_forall, denied_atom, denied_test, denied_and, denied_or, denied_not, denied_implies, denied_exists, denied_forall)
+
+-- ---- the same, for either
+
+pub either_atom : (rel : ℕ) (terms : List Term) (keep : Bool) → normal_at (Atom rel terms) keep ≡ cond keep (Atom rel terms) (Not (Atom rel terms))
+either_atom rel terms true = kept_atom rel terms
+either_atom rel terms false = denied_atom rel terms
+
+pub either_test : (cmp : Cmp) (left right : Term) (keep : Bool) → normal_at (Test cmp left right) keep ≡ Test (cond keep cmp (denied_cmp cmp)) left right
+either_test cmp left right true = kept_test cmp left right
+either_test cmp left right false = denied_test cmp left right
+
+pub either_and : (fs : List Formula) (keep : Bool)
+    → normal_at (And fs) keep ≡ cond keep (And (map (λ f. normal_at f keep) fs)) (Or (map (λ f. normal_at f keep) fs))
+either_and fs true = kept_and fs
+either_and fs false = denied_and fs
+
+pub either_or : (fs : List Formula) (keep : Bool)
+    → normal_at (Or fs) keep ≡ cond keep (Or (map (λ f. normal_at f keep) fs)) (And (map (λ f. normal_at f keep) fs))
+either_or fs true = kept_or fs
+either_or fs false = denied_or fs
+
+pub either_not : (f : Formula) (keep : Bool) → normal_at (Not f) keep ≡ normal_at f (not keep)
+either_not f true = kept_not f
+either_not f false = denied_not f
+
+pub either_implies : (f g : Formula) (keep : Bool)
+    → normal_at (Implies f g) keep
+    ≡ cond keep (Or (normal_at f (not keep) ∷ normal_at g keep ∷ [])) (And (normal_at f (not keep) ∷ normal_at g keep ∷ []))
+either_implies f g true = kept_implies f g
+either_implies f g false = denied_implies f g
+
+pub either_exists : (vars : TypedVars) (f : Formula) (keep : Bool)
+    → normal_at (Exists vars f) keep ≡ cond keep (Exists vars (normal_at f true)) (Not (Exists vars (normal_at f true)))
+either_exists vars f true = kept_exists vars f
+either_exists vars f false = denied_exists vars f
+
+pub either_forall : (vars : TypedVars) (f : Formula) (keep : Bool)
+    → normal_at (Forall vars f) keep ≡ cond keep (Not (Exists vars (normal_at f false))) (Exists vars (normal_at f false))
+either_forall vars f true = kept_forall vars f
+either_forall vars f false = denied_forall vars f
+
+pub ruleset either_laws = (either_atom, either_test, either_and, either_or, either_not, either_implies, either_exists, either_forall)

@@ -7,6 +7,8 @@ use Rattle.std.specs.Cmp.{tied_itself}
 use Rattle.std.specs.Cmp.Lexicographic.{slice_cmp, nat_list_cmp_total}
 use Rattle.std.specs.FinMap.{nat_cmp-IsAntisymmetric, slice_cmp-IsAntisymmetric}
 use Rattle.std.proofs.lemmas.Bool.{and_parts, and_from, eqb-true, eq-eqb, not_from_false, false_from_ne_true}
+use Rattle.std.proofs.lemmas.Map.Text.{is_eq-slice_cmp}
+use Rattle.dbn_value.specs.Names.{name_eq}
 use Rattle.dbn_value.specs.Members.{In}
 use Rattle.dbn_value.proofs.MemberLaws.{any_in, in_any, in_filter, filter_in}
 use Rattle.dbn_value.specs.declared.term.Var.{Var}
@@ -17,10 +19,16 @@ use Rattle.dbn_formula.specs.Free.{unhidden}
 
 -- ---- variables
 
-is_equal : (order : Ordering) → is_eq order ≡ true → order ≡ Equal
-is_equal Less e = cc
-is_equal Equal e = refl
-is_equal Greater e = cc
+name_same : (a b : List ℕ) → name_eq a b ≡ true → a ≡ b
+name_same a b e = slice_cmp-IsAntisymmetric nat_cmp-IsAntisymmetric a b (is_equal (slice_cmp nat_cmp a b) (is_eq-slice_cmp a b ∙ e))
+  where
+    is_equal : (order : Ordering) → is_eq order ≡ true → order ≡ Equal
+    is_equal Less f = cc
+    is_equal Equal f = refl
+    is_equal Greater f = cc
+
+name_itself : (a : List ℕ) → name_eq a a ≡ true
+name_itself a = sym (is_eq-slice_cmp a a) ∙ ap is_eq (tied_itself nat_list_cmp_total a)
 
 made : List ℕ → ℕ → Var
 made name mark = record { name = name; mark = mark }
@@ -28,14 +36,11 @@ made name mark = record { name = name; mark = mark }
 pub var_same : (x y : Var) → var_eq x y ≡ true → x ≡ y
 unfolding made
 var_same x y e =
-    let both = and_parts (is_eq (slice_cmp nat_cmp x.name y.name)) (x.mark == y.mark) e in
-    let name : x.name ≡ y.name = slice_cmp-IsAntisymmetric nat_cmp-IsAntisymmetric x.name y.name (is_equal (slice_cmp nat_cmp x.name y.name) both.0) in
-    let mark : x.mark ≡ y.mark = eqb-true x.mark y.mark both.1 in
-    ap (λ n. made n x.mark) name ∙ ap (made y.name) mark
+    let both = and_parts (name_eq x.name y.name) (x.mark == y.mark) e in
+    ap (λ n. made n x.mark) (name_same x.name y.name both.0) ∙ ap (made y.name) (eqb-true x.mark y.mark both.1)
 
 pub var_itself : (x : Var) → var_eq x x ≡ true
-var_itself x =
-    and_from (is_eq (slice_cmp nat_cmp x.name x.name)) (x.mark == x.mark) (ap is_eq (tied_itself nat_list_cmp_total x.name)) (eq-eqb x.mark x.mark refl)
+var_itself x = and_from (name_eq x.name x.name) (x.mark == x.mark) (name_itself x.name) (eq-eqb x.mark x.mark refl)
 
 pub var_alike : (x y : Var) → x ≡ y → var_eq x y ≡ true
 var_alike x y e = subst (λ z. var_eq x z ≡ true) e (var_itself x)

@@ -6,6 +6,7 @@ pub mod Holds
 pub mod Normal
 pub mod Ready
 pub mod Safe
+pub mod Scope
 pub mod Size
 pub mod Solutions
 pub mod Solve

@@ -49,6 +49,11 @@ abbrev pub type_in : TypedVars → Var → Option ColType
 type_in [] x = None
 type_in (entry ∷ scope) x = if var_eq x entry.0 then Some entry.1 else type_in scope x
 
+-- the type of the variable inside a quantifier, where it has the type `found` outside
+abbrev pub type_under : TypedVars → Var → Option ColType → Option ColType
+type_under [] x found = found
+type_under (entry ∷ vars) x found = type_under vars x (if var_eq x entry.0 then Some entry.1 else found)
+
 abbrev pub term_type : TypedVars → Term → Option ColType
 term_type scope (term.Var x) = type_in scope x
 term_type scope (term.Const v) = Some (value_type v)

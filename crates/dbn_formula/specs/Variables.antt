@@ -1,18 +1,13 @@
 -- Variables and types: when two are the same, and lists of variables.
-use Rattle.std.specs.Prelude.{Bool, true, false, not, ◌&&◌, ◌==◌, List, [], ◌∷◌}
-use Rattle.std.specs.Ordering.{nat_cmp, is_eq}
-use Rattle.std.specs.Cmp.Lexicographic.{slice_cmp}
+use Rattle.std.specs.Prelude.{if◌then◌else◌, ◌++◌, Bool, true, false, not, ◌&&◌, ◌==◌, List, [], ◌∷◌}
 use Rattle.std.specs.List.{list_any, filter}
+pub use Rattle.dbn_value.specs.Variables.{var_eq}
 use Rattle.dbn_value.specs.declared.term.Var.{Var}
 use Rattle.dbn_value.specs.declared.value.ColType.{ColType}
 use Rattle.dbn_value.specs.declared.value.ColType.TheVariants as col
 
 abbrev pub TypedVars : Type 0
 TypedVars = List (Var × ColType)
-
--- one name and one mark
-abbrev pub var_eq : Var → Var → Bool
-var_eq x y = is_eq (slice_cmp nat_cmp x.name y.name) && x.mark == y.mark
 
 abbrev pub type_eq : ColType → ColType → Bool
 type_eq col.Int col.Int = true
@@ -36,3 +31,7 @@ binds vars x = list_any (λ y. var_eq x y.0) vars
 abbrev pub firsts : List Var → List Var
 firsts [] = []
 firsts (x ∷ xs) = x ∷ filter (λ y. not (var_eq x y)) (firsts xs)
+
+-- at the end, unless it is there already
+unfoldable pub with_first : List Var → Var → List Var
+with_first xs x = if is_in x xs then xs else xs ++ x ∷ []

@@ -1,17 +1,24 @@
 //! Formulas over the relations of a net: what they mean, their normal form, their free variables and types, and which are safe.
 #![tactic(auto)]
 
+mod copying;
 mod formula;
 mod laws;
+mod normal_form;
 mod safety_laws;
+#[cfg(test)]
+mod tests;
 mod typing;
+mod variables;
 
 pub use formula::{Formula, Formulas};
 pub use laws::{
     answers_are_a_set, free_variables_decide, normal_again, normal_is_small, normal_keeps,
 };
+pub use normal_form::normal;
 pub use safety_laws::{
     arranging_keeps, renaming_keeps, safe_formulas_are_bounded, safe_formulas_are_solved,
     solutions_are_sound_and_complete,
 };
-pub use typing::TypeFault;
+pub use typing::{TypeFault, type_check};
+pub use variables::free;
