@@ -1,5 +1,5 @@
 -- The text of a name or a value is one token, in front of whatever ends a word, and holds no line feed.
-use Rattle.std.proofs.Common.{◌≡◌, ℕ, suc, ◌+◌, ◌-◌, ◌<◌, ◌≤◌, ◌^◌, ◌/◌, ◌%◌, Bool, true, false, cond, not, ◌==◌, ◌&&◌, ◌||◌, List, [], ◌∷◌, ◌++◌, take, drop, length, pos, negsuc, refl, sym, ap, subst, ◌∙◌, arith, add-zero, one-add, append_assoc, length-append, nat_le, ◌⊎◌, inl, inr}
+use Rattle.std.proofs.Common.{◌≡◌, ℕ, suc, ◌+◌, ◌<◌, ◌≤◌, ◌^◌, ◌/◌, ◌%◌, Bool, true, false, cond, not, ◌==◌, ◌&&◌, ◌||◌, List, [], ◌∷◌, ◌++◌, take, drop, length, pos, negsuc, refl, sym, ap, ◌∙◌, arith, add-zero, one-add, append_assoc, length-append, nat_le, ◌⊎◌, inl, inr}
 use Rattle.std.proofs.Math.Dec.{ltb}
 use Rattle.std.proofs.Math.Seq.{take-append_seam, drop-append_seam}
 use Rattle.std.proofs.Math.Utf8.{encode, encodes}
@@ -12,12 +12,12 @@ use Rattle.std.specs.List.{count_by, list_all, list_any, position_or_len}
 use Rattle.std.specs.Char.{is_control, is_ascii_digit, is_ascii_alphabetic}
 use Rattle.std.specs.Str.{is_utf8, chars}
 use Rattle.std.specs.Fmt.{decimal}
-use Rattle.dbn_value.specs.Text.{is_text, IsText, is_name_byte, is_identifier, is_operator, is_name}
+use Rattle.dbn_value.specs.Text.{is_text, is_name_byte, is_identifier, is_operator, is_name}
 use Rattle.dbn_value.specs.Spelling.{is_special, escape, escaped, spelling, IsValue}
 use Rattle.dbn_value.specs.declared.value.Value.{Value}
 use Rattle.dbn_value.specs.declared.value.Value.TheVariants.{Int, Text, Id}
-use Rattle.dbn_value.proofs.Numbers.{AreDigits, own}
-use Rattle.dbn_sexp.specs.Tokens.{Token, Atom, is_line_feed, is_blank, ends_word, text_rest, more, token_of, tokens}
+use Rattle.dbn_value.proofs.Numbers.{own}
+use Rattle.dbn_sexp.specs.Tokens.{Atom, is_line_feed, is_blank, ends_word, text_rest, more, token_of, tokens}
 use Rattle.dbn_sexp.proofs.ReadLaws.{tokens_piece}
 
 abbrev pub feeds : List ℕ → ℕ

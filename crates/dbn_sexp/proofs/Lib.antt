@@ -1,6 +1,7 @@
 mod TokenExamples
 mod ReadingExamples
 pub mod AtomLaws
+pub mod DepthLaws
 pub mod PrintLaws
 pub mod ReadLaws
 pub mod ScanLaws

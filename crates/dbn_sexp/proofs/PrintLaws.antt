@@ -1,23 +1,21 @@
 -- The text of a list is read as the list, with the lines counted anew.
-use Rattle.std.proofs.Common.{◌≡◌, ℕ, suc, ◌+◌, ◌≤◌, ◌<◌, max, Bool, true, false, cond, List, [], ◌∷◌, ◌++◌, map, length, refl, sym, ap, subst, ◌∙◌, arith, append_assoc, append-nil}
-use Rattle.std.specs.Prelude.{Result, Ok, Err, Some, nat_le}
+use Rattle.std.proofs.Common.{◌≡◌, ℕ, ◌+◌, ◌≤◌, ◌<◌, true, cond, List, [], ◌∷◌, ◌++◌, map, length, refl, sym, ap, ◌∙◌, arith, append_assoc, append-nil}
+use Rattle.std.specs.Prelude.{Ok, Some}
 use Rattle.std.specs.Option.{option_map, option_map_or}
 use Rattle.std.specs.List.{flat_map, AllByRecursion}
 use Rattle.std.proofs.lemmas.Bool.{lt-leb}
-use Rattle.dbn_value.specs.Text.{is_name, IsName}
+use Rattle.dbn_value.specs.Text.{IsName}
 use Rattle.dbn_value.specs.Spelling.{spelling, value_of_bytes, IsValue}
 use Rattle.dbn_value.specs.declared.value.Value.{Value}
 use Rattle.dbn_value.proofs.Spellings.{reads_back}
 use Rattle.dbn_sexp.specs.declared.fault.SexpKind.TheVariants.{BadToken, Deep}
-use Rattle.dbn_sexp.specs.declared.reading.Frame.{Frame}
 use Rattle.dbn_sexp.specs.declared.sexp.Sexp.{Sexp}
 use Rattle.dbn_sexp.specs.declared.sexp.Item.{Item}
 use Rattle.dbn_sexp.specs.declared.sexp.Item.TheVariants as item
 use Rattle.dbn_sexp.specs.Tokens.{Token, Kind, Open, Close, Atom, ends_word, tokens, token_of, more}
-use Rattle.dbn_sexp.specs.Reading.{Fault, State, ◌>>=◌, fault, sexp, with_item, item_of, added, opened, closed, after, step, ended, start, reads_from, reads}
+use Rattle.dbn_sexp.specs.Reading.{State, ◌>>=◌, fault, sexp, with_item, item_of, opened, after, step, ended, reads_from, reads}
 use Rattle.dbn_sexp.specs.Printing.{spaced, item_text, text, largest, nesting, atoms, IsAtom, HasAtoms, IsWithinDepth, on_line, on_lines}
-use Rattle.dbn_sexp.proofs.ReadLaws.{after_one}
-use Rattle.dbn_sexp.proofs.TreeLaws.{Steps, induction, text_name, text_const, text_list, spaced_parts, nesting_list, atoms_name, atoms_const, atoms_list, line_name, line_const, line_list}
+use Rattle.dbn_sexp.proofs.TreeLaws.{induction, text_name, text_const, text_list, spaced_parts, nesting_list, atoms_name, atoms_const, atoms_list, line_name, line_const, line_list}
 use Rattle.dbn_sexp.proofs.AtomLaws.{AreOneToken, name_token, value_token, no_name, tokens_one}
 
 after_cons : (depth line : ℕ) (kind : Kind) (ts : List Token) (state : State)

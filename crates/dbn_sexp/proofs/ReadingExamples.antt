@@ -1,9 +1,9 @@
 -- What small texts are read as.
-use Rattle.std.proofs.Common.{◌≡◌, ℕ, List, [], ◌∷◌, ◌++◌, pos, codes, refl, replicate}
-use Rattle.std.specs.Prelude.{Result, Ok, Err}
-use Rattle.dbn_value.specs.Text.{is_name, is_text}
+use Rattle.std.proofs.Common.{◌≡◌, [], ◌∷◌, pos, codes, refl}
+use Rattle.std.specs.Prelude.{Ok}
+use Rattle.dbn_value.specs.Text.{is_name}
 use Rattle.dbn_value.specs.Spelling.{value_of_bytes}
-use Rattle.dbn_value.specs.declared.value.Value.TheVariants.{Int, Text, Id}
+use Rattle.dbn_value.specs.declared.value.Value.TheVariants.{Int}
 use Rattle.dbn_sexp.specs.declared.fault.SexpKind.TheVariants.{Unclosed, Unopened, BadToken, Deep}
 use Rattle.dbn_sexp.specs.declared.sexp.Item.TheVariants as item
 use Rattle.dbn_sexp.specs.Tokens.{tokens, token_of, more}

@@ -1,5 +1,5 @@
 -- The tokens of small texts.
-use Rattle.std.proofs.Common.{◌≡◌, ℕ, List, [], ◌∷◌, ◌++◌, codes, refl}
+use Rattle.std.proofs.Common.{◌≡◌, ℕ, [], ◌∷◌, codes, refl}
 use Rattle.dbn_sexp.specs.Tokens.{Token, Kind, Open, Close, Atom, tokens, token_of, more}
 
 abbrev at : ℕ → Kind → Token

@@ -48,6 +48,14 @@ spaced_parts one list = ap (λ rest. item_text one.item ++ rest) (flat_map-map (
 
 pub ruleset text_laws = (text_name, text_const, text_list, spaced_parts)
 
+pub nesting_name : (name : List ℕ) → nesting (item.Name name) ≡ 0
+unfolding nesting
+nesting_name name = fold_name ℕ ℕ nesting_step (λ part. part.item) name
+
+pub nesting_const : (value : Value) → nesting (item.Const value) ≡ 0
+unfolding nesting
+nesting_const value = fold_const ℕ ℕ nesting_step (λ part. part.item) value
+
 pub nesting_list : (list : List Sexp) → nesting (item.List list) ≡ largest (map (λ one. nesting one.item) list) + 1
 unfolding nesting
 nesting_list list = fold_list ℕ ℕ nesting_step (λ part. part.item) list

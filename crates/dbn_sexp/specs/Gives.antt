@@ -1,5 +1,5 @@
 -- What a call of the reader returns, against what reading gives.
-use Rattle.std.specs.Prelude.{◌≡◌, ℕ, List, reverse, Option, Result, Ok, Err}
+use Rattle.std.specs.Prelude.{◌≡◌, ℕ, reverse, Option, Result, Ok, Err}
 use Rattle.std.specs.Option.{option_map_or}
 use Rattle.dbn_sexp.specs.declared.fault.SexpFault.{SexpFault}
 use Rattle.dbn_sexp.specs.declared.fault.SexpFault.TheVariants.{Bad, Memory}

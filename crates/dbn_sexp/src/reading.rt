@@ -1,8 +1,9 @@
 //! Reading a text.
 
-ghost use Rattle.std.specs.Prelude.{◌≡◌, []};
+ghost use Rattle.std.specs.Prelude.{◌≡◌, [], IfOk};
 ghost use Rattle.dbn_sexp.specs.Tokens.{token_of};
 ghost use Rattle.dbn_sexp.specs.Reading.{constant_of, item_of, added, after, opened, closed, ended, reads};
+ghost use Rattle.dbn_sexp.specs.Printing.{IsWithinDepth};
 ghost use Rattle.dbn_sexp.specs.Gives.{Gives, Leads, GivesItem, state_of};
 
 use crate::fault::{SexpFault, SexpKind};
@@ -150,6 +151,14 @@ impl Reader {
 /// The S-expressions of a text, each with the line of its first byte. `Bad` comes exactly where the text has a fault, and
 /// tells the first one in reading order; no parenthesis may open inside `depth` open lists.
 pub fn read_all(alloc: Global, bytes: &[u8], depth: usize) -> Result<SexpList, SexpFault>
+    ensures exact { Gives result (reads depth bytes.now) }
+    ensures within { IfOk result (λ list. IsWithinDepth depth list) }
+{
+    read_text(alloc, bytes, depth)
+}
+
+/// The same, by what reading gives alone.
+fn read_text(alloc: Global, bytes: &[u8], depth: usize) -> Result<SexpList, SexpFault>
     ensures { Gives result (reads depth bytes.now) }
 {
     let mut reader = Reader::new(alloc);
