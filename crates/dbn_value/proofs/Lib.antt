@@ -3,3 +3,8 @@ pub mod Numbers
 pub mod Rows
 pub mod Spellings
 pub mod Texts
+pub mod AscendingLaws
+pub mod CollectedLaws
+pub mod EntryLaws
+pub mod MemberLaws
+pub mod SetLaws

@@ -1,7 +1,11 @@
+pub mod Ascending
 pub mod Coding
 pub mod Names
 pub mod Order
 pub mod Picked
+pub mod Members
+pub mod Order
+pub mod Sets
 pub mod Spelling
 pub mod Text
 pub mod Variables
