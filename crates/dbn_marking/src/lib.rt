@@ -1,0 +1,8 @@
+//! Markings: how many tokens of each row lie in each place.
+#![tactic(auto)]
+
+mod held;
+mod marking;
+
+pub use held::{AddFault, CountedRows};
+pub use marking::Marking;
