@@ -6,3 +6,6 @@ mod marking;
 
 pub use held::{AddFault, CountedRows};
 pub use marking::Marking;
+
+#[cfg(test)]
+mod tests;
