@@ -16,7 +16,7 @@ use Rattle.std.specs.FinMap.{IsAntisymmetric}
 use Rattle.std.proofs.lemmas.List.Kept.{IsStrictlySortedBy-filter}
 use Rattle.dbn_value.specs.Members.{In}
 use Rattle.dbn_value.specs.Ascending.{ascending, rows_over, CellsIn, IsOneToOne}
-use Rattle.dbn_value.proofs.MemberLaws.{any_in, in_any, filter_all, in_filter, filter_in, in_append, recursion_at, recursion_from, in_map, map_in, in_flat, flat_in}
+use Rattle.dbn_value.proofs.MemberLaws.{any_in, in_any, filter_all, in_filter, filter_in, in_append, append_left, append_right, recursion_at, recursion_from, in_map, map_in, in_flat, flat_in}
 
 -- ---- a strictly ascending list, element by element
 
@@ -246,6 +246,19 @@ module _ {K : Type 0} {R : K → K → Ordering} (o : IsTotalOrder R) where
     pub same_ascending : (xs ys : List K) → ((q : K) → In q xs → In q ys) → ((q : K) → In q ys → In q xs) → ascending R xs ≡ ascending R ys
     same_ascending xs ys there back =
         is_ascending (ascending R xs) ys (sorted_ascending xs) (λ q at. there q (in_ascending R q xs at)) (λ q at. ascending_in q xs (back q at))
+
+    -- one more element at the end
+    pub ascending_push : (x : K) (xs : List K) → ascending R (xs ++ x ∷ []) ≡ insert_key R (ascending R xs) x
+    ascending_push x xs =
+        sym (is_ascending (insert_key R (ascending R xs) x) (xs ++ x ∷ []) (sorted_insert_key x (ascending R xs) (sorted_ascending xs))
+        (λ q at. ⊎_elim
+            (λ new. append_right q xs (x ∷ []) (inl new))
+            (λ old. append_left q xs (x ∷ []) (in_ascending R q xs old))
+            (in_insert_key R x q (ascending R xs) at))
+        (λ q at. ⊎_elim
+            (λ left. insert_key_old R x q (ascending R xs) (ascending_in q xs left))
+            (λ right. ⊎_elim (λ here. subst (λ z. In z (insert_key R (ascending R xs) x)) (sym here) (insert_key_new x (ascending R xs))) (λ none. absurd none) right)
+            (in_append q xs (x ∷ []) at)))
 
     pub filter_ascending : (t : K → Bool) (xs : List K) → filter t (ascending R xs) ≡ ascending R (filter t xs)
     filter_ascending t xs =

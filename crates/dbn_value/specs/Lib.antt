@@ -4,6 +4,8 @@ pub mod Members
 pub mod Names
 pub mod Order
 pub mod Picked
+pub mod Members
+pub mod Order
 pub mod Sets
 pub mod Spelling
 pub mod Text

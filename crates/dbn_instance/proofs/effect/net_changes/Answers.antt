@@ -1,0 +1,16 @@
+use Rattle.std.proofs.Common.{rules, ◌≡◌, subst, sym}
+use Rattle.dbn_instance.specs.Facts.{net_changes, after_changes, after_action, AllFit}
+use Rattle.dbn_instance.proofs.FactLaws.{net_changes_lead, net_changes_fit}
+use Rattle.dbn_instance.proofs.effect.net_changes.Goals as goal
+
+pub returns-clause-leads : goal.returns-clause-leads
+returns-clause-leads g c =
+    let exact : c.push_pluses.new.changes ≡ net_changes g.C.Ord.cmp c.args.deletes.now c.args.adds.now c.args.instance.now = search rules in
+    subst (λ changes. after_changes g.C.Ord.cmp changes c.args.instance.now ≡ after_action g.C.Ord.cmp c.args.deletes.now c.args.adds.now c.args.instance.now) (sym exact)
+    (net_changes_lead g.met.C.Ord.total g.met.C.Cell.exact c.args.deletes.now c.args.adds.now c.args.instance.now c.relations-count.ensures.ascending c.requires.deletes c.requires.adds)
+
+pub returns-clause-fits : goal.returns-clause-fits
+returns-clause-fits g c =
+    let exact : c.push_pluses.new.changes ≡ net_changes g.C.Ord.cmp c.args.deletes.now c.args.adds.now c.args.instance.now = search rules in
+    subst (λ changes. AllFit g.C.Ord.cmp changes c.args.instance.now) (sym exact)
+    (net_changes_fit g.met.C.Ord.total g.met.C.Cell.exact c.args.deletes.now c.args.adds.now c.args.instance.now c.relations-count.ensures.ascending c.requires.deletes c.requires.adds)

@@ -1,0 +1,3 @@
+pub mod FactOrder
+pub mod Facts
+pub mod Grounding

@@ -1,0 +1,105 @@
+ghost use Rattle.std.specs.Prelude.{◌≡◌, refl, IfOk};
+ghost use Rattle.std.specs.Ordering.{eq_by_cmp, as_partial_cmp};
+ghost use Rattle.std.specs.Cmp.{partial_equiv_from_equiv, eq_by_cmp_equiv, partial_order_from_total};
+ghost use Rattle.std.specs.Cmp.Lexicographic.{slice_cmp, lists_total};
+ghost use Rattle.dbn_instance.specs.FactOrder.{fact_cmp, fact_total};
+
+use dbn_value::{Cell, Name, Row, Terms, TypedVars};
+use sqlite_items::Items;
+use std::alloc::{AllocError, Global};
+use std::cmp::Ordering;
+
+/// A row of a relation, which goes by its number. Facts are ordered by relation and then by row.
+#[derive(Debug, Drop)]
+pub struct Fact<C> {
+    pub rel: usize,
+    pub row: Row<C>,
+}
+
+/// A list of facts.
+pub type Facts<C> = Items<Fact<C>>;
+
+/// A fact that comes or goes.
+#[derive(Debug, Drop)]
+pub enum Change<C> {
+    Plus(Fact<C>),
+    Minus(Fact<C>),
+}
+
+/// A list of changes, of which the first comes first.
+pub type Changes<C> = Items<Change<C>>;
+
+/// A fact with terms in place of cells.
+#[derive(Debug, Drop)]
+pub struct FactPattern {
+    pub rel: usize,
+    pub terms: Terms,
+}
+
+/// A list of patterns.
+pub type FactPatterns = Items<FactPattern>;
+
+/// An action: the facts that it deletes and then those that it adds, for arguments in the place of its parameters.
+#[derive(Debug, Drop)]
+pub struct Action {
+    pub name: Name,
+    pub params: TypedVars,
+    pub deletes: FactPatterns,
+    pub adds: FactPatterns,
+}
+
+impl<C: Ord> PartialEq for Fact<C> {
+    ghost eq = { eq_by_cmp (fact_cmp C.cmp) };
+
+    ghost laws = { partial_equiv_from_equiv (eq_by_cmp_equiv (fact_total C.total)) };
+
+    fn eq(&self, other: &Fact<C>) -> bool {
+        self.cmp(other).is_eq()
+    }
+}
+
+impl<C: Ord> Eq for Fact<C> {
+    ghost laws = { eq_by_cmp_equiv (fact_total C.total) };
+}
+
+impl<C: Ord> PartialOrd for Fact<C> {
+    ghost partial_cmp = { as_partial_cmp (fact_cmp C.cmp) };
+
+    ghost laws = { partial_order_from_total (fact_total C.total) };
+
+    fn partial_cmp(&self, other: &Fact<C>) -> Option<Ordering> {
+        Some(self.cmp(other))
+    }
+}
+
+impl<C: Ord> Ord for Fact<C> {
+    ghost cmp = { fact_cmp C.cmp };
+
+    ghost total = { fact_total C.total };
+
+    ghost matches_partial_cmp = { λ x y. refl };
+
+    ghost matches_eq = { λ x y. refl };
+
+    fn cmp(&self, other: &Fact<C>) -> Ordering {
+        self.rel.cmp(&other.rel).then(self.row.cmp(&other.row))
+    }
+}
+
+/// A copy of the row. An error is want of memory.
+pub(crate) fn copy_row<C: Cell>(alloc: Global, row: &Row<C>) -> Result<Row<C>, AllocError>
+    ensures { IfOk result (λ copy. copy ≡ row.now) }
+{
+    copy_cells(alloc, row.as_slice())
+}
+
+/// A row of copies of the cells.
+fn copy_cells<C: Cell>(alloc: Global, cells: &[C]) -> Result<Row<C>, AllocError>
+    ensures { IfOk result (λ row. row ≡ cells.now) }
+{
+    let mut copy = Vec::new(alloc);
+    for cell in cells {
+        copy.push(cell.copy_in(alloc)?)?;
+    }
+    Ok(Row::from_vec(copy))
+}

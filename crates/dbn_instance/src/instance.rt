@@ -1,0 +1,141 @@
+ghost use Rattle.std.specs.Prelude.{◌≡◌, ◌<◌, ℕ, List, [], length, replicate, drop, IfOk, OnOk, OnErr};
+ghost use Rattle.std.specs.List.{All};
+ghost use Rattle.std.specs.List.Sorted.{IsStrictlySortedBy};
+ghost use Rattle.std.specs.Cmp.Lexicographic.{slice_cmp};
+ghost use Rattle.dbn_instance.specs.Facts.{Relations, rows_of, fact_of, turned, has_fact, with_fact, without_fact, changed, after_changes, taken_back, AllFit, IsInstance};
+
+use super::fact::{Change, Changes, Fact, copy_row};
+use super::relation::Relation;
+use dbn_value::{Cell, RowsOf};
+use std::alloc::{AllocError, Global};
+use std::marker::Model;
+
+/// An instance: for each relation, numbered from 0, its rows, each once, in the order of the cells.
+#[derive(Drop)]
+pub struct Instance<C: Cell> {
+    relations: Vec<Relation<C>>,
+}
+
+impl<C: Cell> Model for Instance<C> {
+    ghost use Rattle.std.specs.Prelude.{List};
+    ghost use Rattle.std.specs.Coded.{coded_list};
+    ghost use Rattle.dbn_instance.specs.Facts.{IsInstance};
+
+    ghost Value = { List (List (List C)) };
+
+    ghost coded = { coded_list (coded_list (coded_list C.code)) };
+
+    ghost view = { λ i. i.relations.items };
+
+    ghost invariant = { λ i. IsInstance C.cmp i.relations.items };
+}
+
+impl<C: Cell> Instance<C> {
+    /// The instance of that many relations without rows. An error is want of memory.
+    pub fn new(alloc: Global, relations: usize) -> Result<Instance<C>, AllocError>
+        ensures { IfOk result (λ i. i ≡ replicate relations []) }
+    {
+        let mut empty = Vec::new(alloc);
+        for _ in 0..relations {
+            empty.push(Relation::new(alloc))?;
+        }
+        Ok(Instance { relations: empty })
+    }
+
+    /// How many relations there are. The rows of each ascend.
+    pub fn relations(&self) -> usize
+        ensures count { result ≡ length self.now }
+        ensures ascending { IsInstance C.cmp self.now }
+    {
+        self.relations.len()
+    }
+
+    /// Whether the fact is there.
+    pub fn has(&self, fact: &Fact<C>) -> bool
+        requires { fact.now.rel < length self.now }
+        ensures { result ≡ has_fact C.cmp self.now fact.now }
+    {
+        self.relations[fact.rel].has(&fact.row)
+    }
+
+    /// The rows of the relation, in the order of the cells. An error is want of memory.
+    pub fn rows(&self, alloc: Global, rel: usize) -> Result<RowsOf<C>, AllocError>
+        requires { rel < length self.now }
+        ensures rows { IfOk result (λ rows. rows ≡ rows_of self.now rel) }
+        ensures ascending { IfOk result (λ rows. IsStrictlySortedBy (slice_cmp C.cmp) rows) }
+    {
+        self.relations[rel].rows(alloc)
+    }
+
+    /// Makes the change: a Plus adds its fact, unless it is there, and a Minus takes its fact out. After want of memory,
+    /// which a Minus never meets, the instance is unchanged.
+    pub fn apply(&mut self, alloc: Global, change: &Change<C>) -> Result<(), AllocError>
+        requires { (fact_of change.now).rel < length self.old }
+        ensures ok { OnOk result (self.new ≡ changed C.cmp self.old change.now) }
+        ensures err { OnErr result (self.new ≡ self.old) }
+    {
+        match change {
+            Change::Plus(fact) => self.add(alloc, fact),
+            Change::Minus(fact) => {
+                self.remove(fact);
+                Ok(())
+            }
+        }
+    }
+
+    /// Takes changes back, the last of them first: changes that were just made, each where it fitted, are undone.
+    /// After want of memory the changes from some place in the list on are taken back, and those before it are not.
+    pub fn revert(&mut self, alloc: Global, changes: &Changes<C>) -> Result<(), AllocError>
+        requires { All (λ c. (fact_of c).rel < length self.old) changes.now }
+        ensures ok { OnOk result (self.new ≡ taken_back C.cmp changes.now self.old) }
+        ensures back { OnOk result ((before : List (List (List C))) → IsInstance C.cmp before → AllFit C.cmp changes.now before → self.old ≡ after_changes C.cmp changes.now before → self.new ≡ before) }
+        ensures err { OnErr result ((n : ℕ) × (self.new ≡ taken_back C.cmp (drop n changes.now) self.old)) }
+    {
+        self.undo_all(alloc, changes.as_slice())
+    }
+
+    fn undo_all(&mut self, alloc: Global, changes: &[Change<C>]) -> Result<(), AllocError>
+        requires { All (λ c. (fact_of c).rel < length self.old) changes.now }
+        ensures ok { OnOk result (self.new ≡ taken_back C.cmp changes.now self.old) }
+        ensures err { OnErr result ((n : ℕ) × (self.new ≡ taken_back C.cmp (drop n changes.now) self.old)) }
+    {
+        for done in 0..changes.len() {
+            self.undo(alloc, &changes[changes.len() - 1 - done])?;
+        }
+        Ok(())
+    }
+
+    /// Takes the change back.
+    fn undo(&mut self, alloc: Global, change: &Change<C>) -> Result<(), AllocError>
+        requires { (fact_of change.now).rel < length self.old }
+        ensures ok { OnOk result (self.new ≡ changed C.cmp self.old (turned change.now)) }
+        ensures err { OnErr result (self.new ≡ self.old) }
+    {
+        match change {
+            Change::Minus(fact) => self.add(alloc, fact),
+            Change::Plus(fact) => {
+                self.remove(fact);
+                Ok(())
+            }
+        }
+    }
+
+    fn add(&mut self, alloc: Global, fact: &Fact<C>) -> Result<(), AllocError>
+        requires { fact.now.rel < length self.old }
+        ensures ok { OnOk result (self.new ≡ with_fact C.cmp self.old fact.now) }
+        ensures err { OnErr result (self.new ≡ self.old) }
+    {
+        let row = copy_row(alloc, &fact.row)?;
+        let relation = &mut self.relations[fact.rel];
+        relation.insert(row)?;
+        Ok(())
+    }
+
+    fn remove(&mut self, fact: &Fact<C>)
+        requires { fact.now.rel < length self.old }
+        ensures { self.new ≡ without_fact C.cmp self.old fact.now }
+    {
+        let relation = &mut self.relations[fact.rel];
+        relation.remove(&fact.row);
+    }
+}

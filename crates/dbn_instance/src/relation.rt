@@ -1,0 +1,76 @@
+ghost use Rattle.std.specs.Prelude.{◌≡◌, [], IfOk, OnOk, OnErr};
+ghost use Rattle.std.specs.List.{list_any};
+ghost use Rattle.std.specs.List.Sorted.{IsStrictlySortedBy};
+ghost use Rattle.std.specs.BTreeMap.{is_at};
+ghost use Rattle.std.specs.BTreeSet.{insert_key};
+ghost use Rattle.std.specs.Set.{remove_key};
+ghost use Rattle.std.specs.Cmp.Lexicographic.{slice_cmp};
+
+use super::fact::copy_row;
+use dbn_value::{Cell, Row, RowsOf};
+use sqlite_items::Items;
+use std::alloc::{AllocError, Global};
+use std::collections::BTreeSet;
+use std::marker::Model;
+
+/// The rows of one relation.
+#[derive(Drop)]
+pub struct Relation<C: Cell> {
+    rows: BTreeSet<Row<C>>,
+}
+
+impl<C: Cell> Model for Relation<C> {
+    ghost use Rattle.std.specs.Prelude.{List};
+    ghost use Rattle.std.specs.Coded.{coded_list};
+
+    ghost Value = { List (List C) };
+
+    ghost coded = { coded_list (coded_list C.code) };
+
+    ghost view = { λ r. r.rows.keys };
+}
+
+impl<C: Cell> Relation<C> {
+    /// A relation without rows.
+    pub(crate) fn new(alloc: Global) -> Relation<C>
+        ensures { result ≡ [] }
+    {
+        Relation {
+            rows: BTreeSet::new(alloc),
+        }
+    }
+
+    /// Whether the row is there.
+    pub(crate) fn has(&self, row: &Row<C>) -> bool
+        ensures { result ≡ list_any (is_at (slice_cmp C.cmp row.now)) self.now }
+    {
+        self.rows.contains(row)
+    }
+
+    /// The rows in the order of the cells. An error is want of memory.
+    pub(crate) fn rows(&self, alloc: Global) -> Result<RowsOf<C>, AllocError>
+        ensures { IfOk result (λ rows. rows ≡ self.now) }
+    {
+        let mut rows = Items::new(alloc);
+        for row in &self.rows {
+            rows.push(copy_row(alloc, row)?)?;
+        }
+        Ok(rows)
+    }
+
+    /// Adds the row, unless it is there. After want of memory nothing changed.
+    pub(crate) fn insert(&mut self, row: Row<C>) -> Result<(), AllocError>
+        ensures ok { OnOk result (self.new ≡ insert_key (slice_cmp C.cmp) self.old row) }
+        ensures err { OnErr result (self.new ≡ self.old) }
+    {
+        self.rows.insert(row)?;
+        Ok(())
+    }
+
+    /// Takes the row out, where it is there.
+    pub(crate) fn remove(&mut self, row: &Row<C>)
+        ensures { self.new ≡ remove_key (is_at (slice_cmp C.cmp row.now)) self.old }
+    {
+        self.rows.remove(row);
+    }
+}
