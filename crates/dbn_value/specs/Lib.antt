@@ -4,8 +4,6 @@ pub mod Members
 pub mod Names
 pub mod Order
 pub mod Picked
-pub mod Members
-pub mod Order
 pub mod Sets
 pub mod Spelling
 pub mod Text
