@@ -7,6 +7,7 @@ use dbn_io::{LazyFileSource, Limits, StdSink, StdSource};
 use dbn_top::{Status, dbnet};
 use std::alloc::AllocError;
 use std::env;
+use std::io::ErrorKind;
 use std::process::ExitCode;
 
 // The file with the text of the net.
@@ -47,8 +48,10 @@ fn run(rt: &HostRuntime) -> Status {
 // The arguments after the program's name. Arguments that are no text are as good as none: they name no verb.
 fn words(rt: &HostRuntime) -> Result<Vec<String>, AllocError> {
     let mut words = Vec::new(rt.alloc());
-    let Ok(args) = env::args(rt) else {
-        return Ok(words);
+    let args = match env::args(rt) {
+        Ok(args) => args,
+        Err(error) if error.kind() == ErrorKind::OutOfMemory => return Err(AllocError),
+        Err(_) => return Ok(words),
     };
     for word in args.skip(1) {
         words.push(word)?;
