@@ -1,5 +1,6 @@
 pub mod AnswersLaws
 pub mod ApartLaws
+pub mod ApartMarks
 pub mod Arranged
 pub mod Bounded
 pub mod Choices
@@ -33,3 +34,4 @@ pub mod Tests
 pub mod TypesKept
 pub mod TypingLaws
 pub mod VariableLaws
+pub mod Weights

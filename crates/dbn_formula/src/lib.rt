@@ -1,11 +1,13 @@
 //! Formulas over the relations of a net: what they mean, their normal form, their free variables and types, and which are safe.
 #![tactic(auto)]
 
+mod apart;
 mod formula;
 mod laws;
 mod safety_laws;
 mod typing;
 
+pub use apart::rename_apart;
 pub use formula::{Formula, Formulas};
 pub use laws::{
     answers_are_a_set, free_variables_decide, normal_again, normal_is_small, normal_keeps,
