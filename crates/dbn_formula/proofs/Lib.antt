@@ -1,5 +1,6 @@
 pub mod AnswersLaws
 pub mod ApartLaws
+pub mod ApartMarks
 pub mod Arranged
 pub mod Bounded
 pub mod Choices
@@ -30,8 +31,9 @@ pub mod SizeLaws
 pub mod SolutionLaws
 pub mod SolveLaws
 pub mod Solved
-pub mod Tests
+pub mod Truth
 pub mod TypesKept
 pub mod TypeFaults
 pub mod TypingLaws
 pub mod VariableLaws
+pub mod Weights

@@ -3,6 +3,7 @@ pub mod Apart
 pub mod Distinct
 pub mod Free
 pub mod Holds
+pub mod Naming
 pub mod Normal
 pub mod Ready
 pub mod Safe

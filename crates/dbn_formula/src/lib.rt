@@ -1,6 +1,7 @@
 //! Formulas over the relations of a net: what they mean, their normal form, their free variables and types, and which are safe.
 #![tactic(auto)]
 
+mod apart;
 mod copying;
 mod formula;
 mod laws;
@@ -11,6 +12,7 @@ mod tests;
 mod typing;
 mod variables;
 
+pub use apart::rename_apart;
 pub use formula::{Formula, Formulas};
 pub use laws::{
     answers_are_a_set, free_variables_decide, normal_again, normal_is_small, normal_keeps,
