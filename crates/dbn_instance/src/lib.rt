@@ -5,11 +5,9 @@ mod effect;
 mod fact;
 mod grounding;
 mod instance;
-
 mod relation;
 
 pub use effect::net_changes;
 pub use fact::{Action, Change, Changes, Fact, FactPattern, FactPatterns, Facts};
 pub use grounding::ground;
 pub use instance::Instance;
-

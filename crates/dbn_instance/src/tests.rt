@@ -44,13 +44,23 @@ fn is_list(rows: &RowsOf<Value>, want: &[i64]) -> bool {
 fn a_fact_deleted_and_added_is_there(rt: HostRuntime) -> Result<(), Fail> {
     let alloc = rt.alloc();
     let mut instance = Instance::<Value>::new(alloc, 1)?;
-    let changes = net_changes(alloc, &facts(alloc, 0, &[1])?, &facts(alloc, 0, &[1])?, &instance)?;
+    let changes = net_changes(
+        alloc,
+        &facts(alloc, 0, &[1])?,
+        &facts(alloc, 0, &[1])?,
+        &instance,
+    )?;
     assert_eq!(rt; changes.len(), 1);
     for change in changes.as_slice() {
         instance.apply(alloc, change)?;
     }
     assert!(rt; is_list(&instance.rows(alloc, 0)?, &[1]));
-    let again = net_changes(alloc, &facts(alloc, 0, &[1])?, &facts(alloc, 0, &[1])?, &instance)?;
+    let again = net_changes(
+        alloc,
+        &facts(alloc, 0, &[1])?,
+        &facts(alloc, 0, &[1])?,
+        &instance,
+    )?;
     assert_eq!(rt; again.len(), 0);
     Ok(())
 }

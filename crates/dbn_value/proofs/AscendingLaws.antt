@@ -252,13 +252,13 @@ module _ {K : Type 0} {R : K → K → Ordering} (o : IsTotalOrder R) where
     ascending_push x xs =
         sym (is_ascending (insert_key R (ascending R xs) x) (xs ++ x ∷ []) (sorted_insert_key x (ascending R xs) (sorted_ascending xs))
         (λ q at. ⊎_elim
-            (λ new. append_right q xs (x ∷ []) (inl new))
-            (λ old. append_left q xs (x ∷ []) (in_ascending R q xs old))
-            (in_insert_key R x q (ascending R xs) at))
+        (λ new. append_right q xs (x ∷ []) (inl new))
+        (λ old. append_left q xs (x ∷ []) (in_ascending R q xs old))
+        (in_insert_key R x q (ascending R xs) at))
         (λ q at. ⊎_elim
-            (λ left. insert_key_old R x q (ascending R xs) (ascending_in q xs left))
-            (λ right. ⊎_elim (λ here. subst (λ z. In z (insert_key R (ascending R xs) x)) (sym here) (insert_key_new x (ascending R xs))) (λ none. absurd none) right)
-            (in_append q xs (x ∷ []) at)))
+        (λ left. insert_key_old R x q (ascending R xs) (ascending_in q xs left))
+        (λ right. ⊎_elim (λ here. subst (λ z. In z (insert_key R (ascending R xs) x)) (sym here) (insert_key_new x (ascending R xs))) (λ none. absurd none) right)
+        (in_append q xs (x ∷ []) at)))
 
     pub filter_ascending : (t : K → Bool) (xs : List K) → filter t (ascending R xs) ≡ ascending R (filter t xs)
     filter_ascending t xs =
