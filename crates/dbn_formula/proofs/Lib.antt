@@ -31,6 +31,7 @@ pub mod SolutionLaws
 pub mod SolveLaws
 pub mod Solved
 pub mod Tests
+pub mod Turns
 pub mod TypesKept
 pub mod TypingLaws
 pub mod VariableLaws

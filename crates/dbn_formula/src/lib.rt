@@ -4,6 +4,7 @@
 mod apart;
 mod formula;
 mod laws;
+mod safety;
 mod safety_laws;
 mod typing;
 
@@ -12,6 +13,7 @@ pub use formula::{Formula, Formulas};
 pub use laws::{
     answers_are_a_set, free_variables_decide, normal_again, normal_is_small, normal_keeps,
 };
+pub use safety::safe;
 pub use safety_laws::{
     arranging_keeps, renaming_keeps, safe_formulas_are_bounded, safe_formulas_are_solved,
     solutions_are_sound_and_complete,
