@@ -32,6 +32,8 @@ pub mod SolutionLaws
 pub mod SolveLaws
 pub mod Solved
 pub mod Truth
+pub mod Tests
+pub mod Turns
 pub mod TypesKept
 pub mod TypeFaults
 pub mod TypingLaws

@@ -8,26 +8,9 @@ use Rattle.dbn_value.specs.Members.{In}
 use Rattle.dbn_value.proofs.MemberLaws.{any_in, in_any, all_at, all_from, in_map, map_in, in_flat, flat_in}
 use Rattle.dbn_value.specs.declared.term.Var.{Var}
 use Rattle.dbn_formula.specs.Free.{occurrences}
+pub use Rattle.dbn_formula.specs.Conjuncts.{first_safe, taken, order}
 use Rattle.dbn_formula.specs.Safe.{Level, first_fit, all_taken, in_order, safe, arranged, as_level}
 use Rattle.dbn_formula.specs.declared.formula.Formula.{Formula}
-
--- the first formula that is safe for what is bound, and the others
-abbrev pub first_safe : List Formula → List Var → Option (Formula × List Formula)
-first_safe [] bound = None
-first_safe (f ∷ fs) bound = cond (safe f bound) (Some (f, fs)) (option_map (λ found. (found.0, f ∷ found.1)) (first_safe fs bound))
-
--- all get taken in so many turns
-abbrev pub taken : ℕ → List Formula → List Var → Bool
-taken n [] bound = true
-taken zero (f ∷ fs) bound = false
-taken (suc n) (f ∷ fs) bound = option_map_or (λ found. taken n found.1 (bound ++ occurrences found.0)) (first_safe (f ∷ fs) bound) false
-
--- the order in which they are taken
-abbrev pub order : ℕ → List Formula → List Var → List Formula
-order n [] bound = []
-order zero (f ∷ fs) bound = map (λ g. arranged g bound) (f ∷ fs)
-order (suc n) (f ∷ fs) bound =
-    option_map_or (λ found. arranged found.0 bound ∷ order n found.1 (bound ++ occurrences found.0)) (first_safe (f ∷ fs) bound) (map (λ g. arranged g bound) (f ∷ fs))
 
 -- ---- the same as over levels
 

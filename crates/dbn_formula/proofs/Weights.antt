@@ -1,5 +1,6 @@
 -- A weight of formulas, by which recursions over them end.
 use Rattle.std.proofs.Common.{◌≡◌, ℕ, ◌+◌, List, [], ◌∷◌, map, refl, ap, sym, ◌∙◌, length, sum_by}
+use Rattle.std.proofs.lemmas.List.{length-map}
 use Rattle.std.proofs.lemmas.List.Sums.{sum_by-cons}
 use Rattle.dbn_value.specs.declared.term.Term.{Term}
 use Rattle.dbn_value.specs.declared.term.Cmp.{Cmp}
@@ -14,7 +15,7 @@ use Rattle.dbn_formula.proofs.Folds.{fold_atom, fold_test, fold_and, fold_or, fo
 abbrev pub weight_step : Formula-F ℕ → ℕ
 weight_step (layer.Atom rel terms) = 1
 weight_step (layer.Test cmp left right) = 1
-weight_step (layer.And parts) = sum_by (λ n. n) parts + 5
+weight_step (layer.And parts) = sum_by (λ n. n) parts + length parts + 5
 weight_step (layer.Or parts) = sum_by (λ n. n) parts + 5
 weight_step (layer.Not part) = part + 1
 weight_step (layer.Implies left right) = left + right + 1
@@ -39,9 +40,12 @@ pub weight_test : (cmp : Cmp) (left right : Term) → weight (Test cmp left righ
 unfolding weight
 weight_test cmp left right = fold_test ℕ weight_step cmp left right
 
-pub weight_and : (fs : List Formula) → weight (And fs) ≡ sum_by weight fs + 5
+pub weight_and : (fs : List Formula) → weight (And fs) ≡ sum_by weight fs + length fs + 5
 unfolding weight
-weight_and fs = fold_and ℕ weight_step fs ∙ ap (λ n. n + 5) (weighed fs)
+weight_and fs =
+    fold_and ℕ weight_step fs
+    ∙ ap (λ (n : ℕ). n + length (map weight fs) + 5) (weighed fs)
+    ∙ ap (λ (k : ℕ). sum_by weight fs + k + 5) (length-map fs weight)
 
 pub weight_or : (fs : List Formula) → weight (Or fs) ≡ sum_by weight fs + 5
 unfolding weight

@@ -1,5 +1,6 @@
 pub mod Answers
 pub mod Apart
+pub mod Conjuncts
 pub mod Distinct
 pub mod Free
 pub mod Holds

@@ -6,6 +6,7 @@ mod copying;
 mod formula;
 mod laws;
 mod normal_form;
+mod safety;
 mod safety_laws;
 #[cfg(test)]
 mod tests;
@@ -18,6 +19,7 @@ pub use laws::{
     answers_are_a_set, free_variables_decide, normal_again, normal_is_small, normal_keeps,
 };
 pub use normal_form::normal;
+pub use safety::safe;
 pub use safety_laws::{
     arranging_keeps, renaming_keeps, safe_formulas_are_bounded, safe_formulas_are_solved,
     solutions_are_sound_and_complete,
