@@ -22,7 +22,7 @@ use Rattle.dbn_formula.specs.declared.formula.Formula.{Formula}
 use Rattle.dbn_formula.specs.declared.formula.Formula.TheVariants.{Atom, Test, And, Or, Not, Implies, Exists, Forall}
 use Rattle.dbn_formula.proofs.Induction.{Steps, induction}
 use Rattle.dbn_formula.proofs.NormalMeaning.{some_alike}
-use Rattle.dbn_formula.proofs.Tests.{all_alike, everywhere}
+use Rattle.dbn_formula.proofs.Truth.{all_alike, everywhere}
 use Rattle.dbn_formula.proofs.HoldsLaws.{holds_atom, holds_test, holds_and, holds_or, holds_not, holds_implies, holds_exists, holds_forall}
 use Rattle.dbn_formula.proofs.FreeLaws.{occurrences_and, occurrences_or, occurrences_not, occurrences_implies, occurrences_exists, occurrences_forall}
 use Rattle.dbn_formula.proofs.ConstantsLaws.{constants_and, constants_or, constants_not, constants_implies, constants_exists, constants_forall}

@@ -19,7 +19,7 @@ use Rattle.dbn_formula.proofs.Induction.{induction}
 use Rattle.dbn_formula.proofs.HoldsLaws.{holds_atom, holds_test, holds_and, holds_or, holds_not, holds_implies, holds_exists, holds_forall}
 use Rattle.dbn_formula.proofs.FreeLaws.{occurrences_atom, occurrences_test, occurrences_and, occurrences_or, occurrences_not, occurrences_implies, occurrences_exists, occurrences_forall}
 use Rattle.dbn_formula.proofs.VariableLaws.{in_unhidden, unhidden_in, firsts_in}
-use Rattle.dbn_formula.proofs.Tests.{any_alike, all_alike, everywhere}
+use Rattle.dbn_formula.proofs.Truth.{any_alike, all_alike, everywhere}
 
 pub agree_left : (xs ys : List Var) (s t : Env) → Agree (xs ++ ys) s t → Agree xs s t
 agree_left xs ys s t same x at = same x (append_left x xs ys at)

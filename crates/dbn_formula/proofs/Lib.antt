@@ -30,7 +30,7 @@ pub mod SizeLaws
 pub mod SolutionLaws
 pub mod SolveLaws
 pub mod Solved
-pub mod Tests
+pub mod Truth
 pub mod TypesKept
 pub mod TypeFaults
 pub mod TypingLaws

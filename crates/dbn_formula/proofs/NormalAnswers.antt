@@ -11,7 +11,7 @@ use Rattle.dbn_formula.specs.Answers.{values_in, constants, domain, bind, answer
 use Rattle.dbn_formula.specs.Normal.{normal}
 use Rattle.dbn_formula.proofs.NormalMeaning.{meant}
 use Rattle.dbn_formula.proofs.NormalConstants.{kept}
-use Rattle.dbn_formula.proofs.Tests.{filter_alike}
+use Rattle.dbn_formula.proofs.Truth.{filter_alike}
 
 pub same_domain : (f g : Formula) (db : Instance) → constants f ≡ constants g → domain f db ≡ domain g db
 same_domain f g db e =

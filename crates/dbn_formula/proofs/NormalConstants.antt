@@ -13,7 +13,7 @@ use Rattle.dbn_formula.specs.Answers.{constants}
 use Rattle.dbn_formula.specs.Normal.{denied_cmp, normal_at}
 use Rattle.dbn_formula.proofs.Induction.{induction}
 use Rattle.dbn_formula.proofs.Maps.{flat_alike}
-use Rattle.dbn_formula.proofs.Tests.{each_of}
+use Rattle.dbn_formula.proofs.Truth.{each_of}
 use Rattle.dbn_formula.proofs.ConstantsLaws.{constants_test, constants_and, constants_or, constants_not, constants_implies, constants_exists, constants_forall}
 use Rattle.dbn_formula.proofs.NormalLaws.{kept_atom, kept_test, kept_and, kept_or, kept_not, kept_implies, kept_exists, kept_forall, denied_atom, denied_test, denied_and, denied_or, denied_not, denied_implies, denied_exists, denied_forall}
 

@@ -13,7 +13,7 @@ use Rattle.dbn_formula.specs.Free.{unhidden, occurrences}
 use Rattle.dbn_formula.specs.Normal.{denied_cmp, normal_at}
 use Rattle.dbn_formula.proofs.Induction.{induction}
 use Rattle.dbn_formula.proofs.Maps.{flat_alike}
-use Rattle.dbn_formula.proofs.Tests.{each_of}
+use Rattle.dbn_formula.proofs.Truth.{each_of}
 use Rattle.dbn_formula.proofs.FreeLaws.{occurrences_test, occurrences_and, occurrences_or, occurrences_not, occurrences_implies, occurrences_exists, occurrences_forall}
 use Rattle.dbn_formula.proofs.NormalLaws.{kept_atom, kept_test, kept_and, kept_or, kept_not, kept_implies, kept_exists, kept_forall, denied_atom, denied_test, denied_and, denied_or, denied_not, denied_implies, denied_exists, denied_forall}
 

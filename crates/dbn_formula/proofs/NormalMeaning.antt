@@ -15,7 +15,7 @@ use Rattle.dbn_formula.specs.Variables.{TypedVars}
 use Rattle.dbn_formula.specs.Holds.{Env, Domain, Instance, value_of, meets, some_choice, every_choice, holds_over}
 use Rattle.dbn_formula.specs.Normal.{denied_cmp, normal_at}
 use Rattle.dbn_formula.proofs.Induction.{induction}
-use Rattle.dbn_formula.proofs.Tests.{not_not, any_alike, all_alike, any_denied, all_denied, each_of, everywhere}
+use Rattle.dbn_formula.proofs.Truth.{not_not, any_alike, all_alike, any_denied, all_denied, each_of, everywhere}
 use Rattle.dbn_formula.proofs.HoldsLaws.{holds_test, holds_and, holds_or, holds_not, holds_implies, holds_exists, holds_forall}
 use Rattle.dbn_formula.proofs.NormalLaws.{kept_atom, kept_test, kept_and, kept_or, kept_not, kept_implies, kept_exists, kept_forall, denied_atom, denied_test, denied_and, denied_or, denied_not, denied_implies, denied_exists, denied_forall}
 

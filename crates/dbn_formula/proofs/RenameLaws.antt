@@ -29,7 +29,7 @@ use Rattle.dbn_formula.proofs.Induction.{Steps, induction}
 use Rattle.dbn_formula.proofs.HoldsLaws.{holds_atom, holds_test, holds_and, holds_or, holds_not, holds_implies, holds_exists, holds_forall}
 use Rattle.dbn_formula.proofs.ApartLaws.{marks_atom, marks_test, marks_and, marks_or, marks_not, marks_implies, marks_exists, marks_forall, renamed_atom, renamed_test, renamed_and, renamed_or, renamed_not, renamed_implies, renamed_exists, renamed_forall, last_atom, last_test, last_and, last_or, last_not, last_implies, last_exists, last_forall}
 use Rattle.dbn_formula.proofs.VariableLaws.{var_same, var_itself, var_other}
-use Rattle.dbn_formula.proofs.Tests.{any_alike, all_alike, everywhere}
+use Rattle.dbn_formula.proofs.Truth.{any_alike, all_alike, everywhere}
 
 -- ---- the marks that are given
 

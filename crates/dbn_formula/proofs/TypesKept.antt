@@ -19,7 +19,7 @@ use Rattle.dbn_formula.specs.Apart.{Renaming, marks, term_marks, quantified_mark
 use Rattle.dbn_formula.specs.declared.formula.Formula.{Formula}
 use Rattle.dbn_formula.specs.declared.formula.Formula.TheVariants.{Atom, Test, And, Or, Not, Implies, Exists, Forall}
 use Rattle.dbn_formula.proofs.Induction.{Steps, induction}
-use Rattle.dbn_formula.proofs.Tests.{all_alike, each_of}
+use Rattle.dbn_formula.proofs.Truth.{all_alike, each_of}
 use Rattle.dbn_formula.proofs.VariableLaws.{var_itself}
 use Rattle.dbn_formula.proofs.TypingLaws.{types_atom, types_test, types_and, types_or, types_not, types_implies, types_exists, types_forall}
 use Rattle.dbn_formula.proofs.NormalLaws.{kept_atom, kept_test, kept_and, kept_or, kept_not, kept_implies, kept_exists, kept_forall, denied_atom, denied_test, denied_and, denied_or, denied_not, denied_implies, denied_exists, denied_forall}
