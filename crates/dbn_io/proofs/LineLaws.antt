@@ -4,6 +4,7 @@ use Rattle.std.proofs.lemmas.Bool.Decides.{nat_tests}
 use Rattle.std.specs.List.{slice_split, onto_first}
 use Rattle.std.proofs.lemmas.List.Splits.{slice_split_at, slice_split_none}
 use Rattle.std.proofs.Math.Seq.{take-length}
+use Rattle.dbn_model.proofs.LineLaws.{without_return-last}
 use Rattle.dbn_model.specs.Lines.{lines, line_of, without_empty_end, without_return}
 use Rattle.dbn_io.specs.Window.{Unbroken}
 
@@ -21,8 +22,13 @@ split-some (byte ∷ bytes) =
     cond-some (byte == 10) (slice_split (λ b. b == 10) bytes) (onto_first byte (slice_split (λ b. b == 10) bytes)) (onto-some byte (slice_split (λ b. b == 10) bytes) (split-some bytes))
 
 -- a part before others stays a line
+kept-more : (part first : List ℕ) (more : List (List ℕ)) → without_empty_end (part ∷ first ∷ more) ≡ part ∷ without_empty_end (first ∷ more)
+kept-more [] first more = refl
+kept-more (byte ∷ part) first more = refl
+
 kept-before : (part : List ℕ) (parts : List (List ℕ)) → (first : List ℕ) × (more : List (List ℕ)) × (parts ≡ first ∷ more) → without_empty_end (part ∷ parts) ≡ part ∷ without_empty_end parts
-kept-before part parts some = rw some.2 refl
+kept-before part parts some =
+    ap (λ ps. without_empty_end (part ∷ ps)) some.2 ∙ kept-more part some.0 some.1 ∙ ap (λ ps. part ∷ without_empty_end ps) (sym some.2)
 
 -- the first line of a text in which a line feed comes
 pub lines-first : (raw rest : List ℕ) → Unbroken raw → lines (raw ++ 10 ∷ rest) ≡ line_of raw ∷ lines rest
@@ -42,19 +48,6 @@ last-part bytes n e some =
     let same : suc (n - 1) ≡ length bytes = omega arith in
     sym (take-length bytes) ∙ ap (λ k. take k bytes) (sym same) ∙ take-suc bytes (n - 1) 0 below
 
-return-append : (bytes : List ℕ) (byte : ℕ) → without_return (bytes ++ byte ∷ []) ≡ cond (byte == 13) bytes (bytes ++ byte ∷ [])
-return-append [] byte = refl
-return-append (first ∷ []) byte = under (byte == 13)
-  where
-    under : (test : Bool) → first ∷ cond test [] (byte ∷ []) ≡ cond test (first ∷ []) (first ∷ byte ∷ [])
-    under true = refl
-    under false = refl
-return-append (first ∷ next ∷ bytes) byte = ap (λ l. first ∷ l) (return-append (next ∷ bytes) byte) ∙ under (byte == 13)
-  where
-    under : (test : Bool) → first ∷ cond test (next ∷ bytes) (next ∷ (bytes ++ byte ∷ [])) ≡ cond test (first ∷ next ∷ bytes) (first ∷ next ∷ (bytes ++ byte ∷ []))
-    under true = refl
-    under false = refl
-
 -- nothing is dropped of nothing
 pub return-none : (bytes : List ℕ) (n : ℕ) → n ≡ length bytes → n ≡ 0 → take n bytes ≡ without_return bytes
 return-none [] n e none = ap (λ k. take k []) none
@@ -65,14 +58,14 @@ pub return-dropped : (bytes : List ℕ) (n : ℕ) → n ≡ length bytes → 0 <
 return-dropped bytes n e some is_return = sym (
     ap without_return (last-part bytes n e some)
     ∙ ap (λ byte. without_return (take (n - 1) bytes ++ byte ∷ [])) is_return
-    ∙ return-append (take (n - 1) bytes) 13)
+    ∙ without_return-last (take (n - 1) bytes) 13)
 
 -- another byte at the end is kept
 pub return-kept : (bytes : List ℕ) (n : ℕ) → n ≡ length bytes → 0 < n → get_or bytes (n - 1) 0 ≢ 13 → take n bytes ≡ without_return bytes
 return-kept bytes n e some other =
     let test : (get_or bytes (n - 1) 0 == 13) ≡ false = grind (arith, nat_tests) in
     sym (ap without_return (last-part bytes n e some)
-    ∙ return-append (take (n - 1) bytes) (get_or bytes (n - 1) 0)
+    ∙ without_return-last (take (n - 1) bytes) (get_or bytes (n - 1) 0)
     ∙ ap (λ t. cond t (take (n - 1) bytes) (take (n - 1) bytes ++ (get_or bytes (n - 1) 0 ∷ []))) test
     ∙ sym (last-part bytes n e some)
     ∙ sym (ap (λ k. take k bytes) e ∙ take-length bytes))
