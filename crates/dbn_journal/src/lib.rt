@@ -12,3 +12,6 @@ pub use add::append;
 pub use gate::Gate;
 pub use look::gate_at;
 pub use make::{close_first, fill, open_first};
+
+#[cfg(test)]
+mod tests;
