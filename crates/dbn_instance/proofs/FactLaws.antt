@@ -155,9 +155,9 @@ module _ {C : Type 0} {cmp : C → C → Ordering} (o : IsTotalOrder cmp) (exact
   has_with db f g within =
       ⊎_elim
       (λ here.
-          has_at db f.rel _ g within here
-          ∙ any_insert_key (lists_total o) (slice_cmp-IsAntisymmetric exact) g.row f.row (rows_of db f.rel)
-          ∙ (λ i. sym (same_relation cmp g f here) i || list_any (is_at (slice_cmp cmp g.row)) (rows_of db (sym here i))))
+      has_at db f.rel _ g within here
+      ∙ any_insert_key (lists_total o) (slice_cmp-IsAntisymmetric exact) g.row f.row (rows_of db f.rel)
+      ∙ (λ i. sym (same_relation cmp g f here) i || list_any (is_at (slice_cmp cmp g.row)) (rows_of db (sym here i))))
       (λ there. has_past db f.rel _ g there ∙ ap (λ b. b || has_fact cmp db g) (sym (other_relation cmp g f there)))
       (cases_eq g.rel f.rel)
 
@@ -165,10 +165,10 @@ module _ {C : Type 0} {cmp : C → C → Ordering} (o : IsTotalOrder cmp) (exact
   has_without db f g within is =
       ⊎_elim
       (λ here.
-          has_at db f.rel _ g within here
-          ∙ any_remove_key (lists_total o) (slice_cmp-IsAntisymmetric exact) g.row f.row (rows_of db f.rel) (rows_ascend cmp db f.rel is)
-          ∙ ap (λ b. not b && list_any (is_at (slice_cmp cmp g.row)) (rows_of db f.rel)) ((eq_by_cmp_equiv (lists_total o)).symm f.row g.row)
-          ∙ (λ i. not (sym (same_relation cmp g f here) i) && list_any (is_at (slice_cmp cmp g.row)) (rows_of db (sym here i))))
+      has_at db f.rel _ g within here
+      ∙ any_remove_key (lists_total o) (slice_cmp-IsAntisymmetric exact) g.row f.row (rows_of db f.rel) (rows_ascend cmp db f.rel is)
+      ∙ ap (λ b. not b && list_any (is_at (slice_cmp cmp g.row)) (rows_of db f.rel)) ((eq_by_cmp_equiv (lists_total o)).symm f.row g.row)
+      ∙ (λ i. not (sym (same_relation cmp g f here) i) && list_any (is_at (slice_cmp cmp g.row)) (rows_of db (sym here i))))
       (λ there. has_past db f.rel _ g there ∙ ap (λ b. not b && has_fact cmp db g) (sym (other_relation cmp g f there)))
       (cases_eq g.rel f.rel)
 
@@ -250,16 +250,16 @@ module _ {C : Type 0} {cmp : C → C → Ordering} (o : IsTotalOrder cmp) (exact
       let plus_in = in_range (length db) (length (without_facts cmp db minus)) plus (length_without_facts cmp db minus) (gained_in_range adds db adds_in) in
       after_parts minus plus db
       ∙ same_instance (with_facts cmp (without_facts cmp db minus) plus) (after_action cmp deletes adds db)
-          (instance_with_facts o (without_facts cmp db minus) plus (instance_without_facts o db minus is))
-          (instance_after_action o deletes adds db is)
-          (length_with_facts cmp (without_facts cmp db minus) plus ∙ length_without_facts cmp db minus ∙ sym (length_after_action cmp deletes adds db))
-          (λ g below.
-              has_with_facts (without_facts cmp db minus) plus g plus_in
-              ∙ (λ i. among_filter (λ f. not (has_fact cmp db f)) adds g i || has_without_facts db minus g minus_in is i)
-              ∙ ap (λ b. (not (has_fact cmp db g) && is_among cmp adds g) || (not b && has_fact cmp db g)) (among_filter (λ f. has_fact cmp db f && not (is_among cmp adds f)) deletes g)
-              ∙ settled (is_among cmp deletes g) (is_among cmp adds g) (has_fact cmp db g)
-              ∙ ap (λ b. is_among cmp adds g || b) (sym (has_without_facts db deletes g deletes_in is))
-              ∙ sym (has_with_facts (without_facts cmp db deletes) adds g (in_range (length db) (length (without_facts cmp db deletes)) adds (length_without_facts cmp db deletes) adds_in)))
+      (instance_with_facts o (without_facts cmp db minus) plus (instance_without_facts o db minus is))
+      (instance_after_action o deletes adds db is)
+      (length_with_facts cmp (without_facts cmp db minus) plus ∙ length_without_facts cmp db minus ∙ sym (length_after_action cmp deletes adds db))
+      (λ g below.
+      has_with_facts (without_facts cmp db minus) plus g plus_in
+      ∙ (λ i. among_filter (λ f. not (has_fact cmp db f)) adds g i || has_without_facts db minus g minus_in is i)
+      ∙ ap (λ b. (not (has_fact cmp db g) && is_among cmp adds g) || (not b && has_fact cmp db g)) (among_filter (λ f. has_fact cmp db f && not (is_among cmp adds f)) deletes g)
+      ∙ settled (is_among cmp deletes g) (is_among cmp adds g) (has_fact cmp db g)
+      ∙ ap (λ b. is_among cmp adds g || b) (sym (has_without_facts db deletes g deletes_in is))
+      ∙ sym (has_with_facts (without_facts cmp db deletes) adds g (in_range (length db) (length (without_facts cmp db deletes)) adds (length_without_facts cmp db deletes) adds_in)))
 
   -- one more of the facts is looked at, and kept where it passes
   pub gathered_more : (t : Fact C → Bool) (facts : List (Fact C)) (i : ℕ) (f : Fact C) (keys new : List (Fact C)) (wanted : Bool)
@@ -283,26 +283,28 @@ module _ {C : Type 0} {cmp : C → C → Ordering} (o : IsTotalOrder cmp) (exact
 
   pluses_fit : (plus : List (Fact C)) (db : Relations C) → IsStrictlySortedBy (fact_cmp cmp) plus → AreInRange db plus → ((f : Fact C) → In f plus → has_fact cmp db f ≡ false) → AllFit cmp (map (λ f. Plus f) plus) db
   pluses_fit [] db s all missing = tt
-  pluses_fit (f ∷ plus) db s all missing =
-      (missing f (inl refl),
-      pluses_fit plus (with_fact cmp db f) (sorted_tail (fact_cmp cmp) f plus s)
-      (in_range (length db) (length (with_fact cmp db f)) plus (length-set db f.rel _) (All-tail (λ (f : Fact C). f.rel < length db) f plus all))
-      (λ g at.
-          has_with db f g (All-head (λ (f : Fact C). f.rel < length db) f plus all)
-          ∙ (λ i. apart_false f g (head_below (fact_cmp cmp) f plus g s at) i || missing g (inr at) i)))
+  pluses_fit (f ∷ plus) db s all missing = (
+    missing f (inl refl),
+    pluses_fit plus (with_fact cmp db f) (sorted_tail (fact_cmp cmp) f plus s)
+        (in_range (length db) (length (with_fact cmp db f)) plus (length-set db f.rel _) (All-tail (λ (f : Fact C). f.rel < length db) f plus all))
+        (λ g at.
+        has_with db f g (All-head (λ (f : Fact C). f.rel < length db) f plus all)
+        ∙ (λ i. apart_false f g (head_below (fact_cmp cmp) f plus g s at) i || missing g (inr at) i)),
+  )
 
   parts_fit : (minus plus : List (Fact C)) (db : Relations C) → IsInstance cmp db → IsStrictlySortedBy (fact_cmp cmp) minus → IsStrictlySortedBy (fact_cmp cmp) plus → AreInRange db minus → AreInRange db plus
       → ((f : Fact C) → In f minus → has_fact cmp db f ≡ true) → ((f : Fact C) → In f plus → has_fact cmp db f ≡ false) → AllFit cmp (map (λ f. Minus f) minus ++ map (λ f. Plus f) plus) db
   parts_fit [] plus db is s t minus_in plus_in there missing = pluses_fit plus db t plus_in missing
   parts_fit (f ∷ minus) plus db is s t minus_in plus_in there missing =
       let within = All-head (λ (f : Fact C). f.rel < length db) f minus minus_in in
-      let long = length-set db f.rel (remove_key (is_at (slice_cmp cmp f.row)) (rows_of db f.rel)) in
-      (there f (inl refl),
-      parts_fit minus plus (without_fact cmp db f) (instance_without o db f is) (sorted_tail (fact_cmp cmp) f minus s) t
-      (in_range (length db) (length (without_fact cmp db f)) minus long (All-tail (λ (f : Fact C). f.rel < length db) f minus minus_in))
-      (in_range (length db) (length (without_fact cmp db f)) plus long plus_in)
-      (λ g at. has_without db f g within is ∙ (λ i. not (apart_false f g (head_below (fact_cmp cmp) f minus g s at) i) && there g (inr at) i))
-      (λ g at. has_without db f g within is ∙ ap (λ b. not (same g f) && b) (missing g at) ∙ and_false (not (same g f))))
+      let long = length-set db f.rel (remove_key (is_at (slice_cmp cmp f.row)) (rows_of db f.rel)) in (
+        there f (inl refl),
+        parts_fit minus plus (without_fact cmp db f) (instance_without o db f is) (sorted_tail (fact_cmp cmp) f minus s) t
+            (in_range (length db) (length (without_fact cmp db f)) minus long (All-tail (λ (f : Fact C). f.rel < length db) f minus minus_in))
+            (in_range (length db) (length (without_fact cmp db f)) plus long plus_in)
+            (λ g at. has_without db f g within is ∙ (λ i. not (apart_false f g (head_below (fact_cmp cmp) f minus g s at) i) && there g (inr at) i))
+            (λ g at. has_without db f g within is ∙ ap (λ b. not (same g f) && b) (missing g at) ∙ and_false (not (same g f))),
+      )
     where
       and_false : (b : Bool) → (b && false) ≡ false
       and_false true = refl
@@ -323,9 +325,9 @@ module _ {C : Type 0} {cmp : C → C → Ordering} (o : IsTotalOrder cmp) (exact
       same_instance (without_fact cmp (with_fact cmp db f) f) db (instance_without o (with_fact cmp db f) f (instance_with o db f is)) is
       (length-set (with_fact cmp db f) f.rel _ ∙ length-set db f.rel _)
       (λ g below.
-          has_without (with_fact cmp db f) f g (subst (λ (n : ℕ). f.rel < n) (sym (length-set db f.rel _)) within) (instance_with o db f is)
-          ∙ ap (λ b. not (same g f) && b) (has_with db f g within)
-          ∙ by g (same g f) refl)
+      has_without (with_fact cmp db f) f g (subst (λ (n : ℕ). f.rel < n) (sym (length-set db f.rel _)) within) (instance_with o db f is)
+      ∙ ap (λ b. not (same g f) && b) (has_with db f g within)
+      ∙ by g (same g f) refl)
     where
       by : (g : Fact C) (b : Bool) → same g f ≡ b → (not b && (b || has_fact cmp db g)) ≡ has_fact cmp db g
       by g true e = sym (ap (has_fact cmp db) (same_is g f e) ∙ fits)
@@ -334,9 +336,9 @@ module _ {C : Type 0} {cmp : C → C → Ordering} (o : IsTotalOrder cmp) (exact
       same_instance (with_fact cmp (without_fact cmp db f) f) db (instance_with o (without_fact cmp db f) f (instance_without o db f is)) is
       (length-set (without_fact cmp db f) f.rel _ ∙ length-set db f.rel _)
       (λ g below.
-          has_with (without_fact cmp db f) f g (subst (λ (n : ℕ). f.rel < n) (sym (length-set db f.rel _)) within)
-          ∙ ap (λ b. same g f || b) (has_without db f g within is)
-          ∙ by g (same g f) refl)
+      has_with (without_fact cmp db f) f g (subst (λ (n : ℕ). f.rel < n) (sym (length-set db f.rel _)) within)
+      ∙ ap (λ b. same g f || b) (has_without db f g within is)
+      ∙ by g (same g f) refl)
     where
       by : (g : Fact C) (b : Bool) → same g f ≡ b → (b || (not b && has_fact cmp db g)) ≡ has_fact cmp db g
       by g true e = sym (ap (has_fact cmp db) (same_is g f e) ∙ fits)
@@ -347,8 +349,8 @@ module _ {C : Type 0} {cmp : C → C → Ordering} (o : IsTotalOrder cmp) (exact
   all_back (c ∷ changes) db is all fits =
       ap (λ later. changed cmp later (turned c))
       (all_back changes (changed cmp db c) (instance_changed o db c is)
-          (subst (λ (n : ℕ). All (λ (c : Change C). (fact_of c).rel < n) changes) (sym (length_changed cmp db c)) (All-tail (λ (c : Change C). (fact_of c).rel < length db) c changes all))
-          fits.1)
+      (subst (λ (n : ℕ). All (λ (c : Change C). (fact_of c).rel < n) changes) (sym (length_changed cmp db c)) (All-tail (λ (c : Change C). (fact_of c).rel < length db) c changes all))
+      fits.1)
       ∙ one_back db c is (All-head (λ (c : Change C). (fact_of c).rel < length db) c changes all) fits.0
 
   pub reverted : {T E : Type 0} (r : Result T E) (changes : List (Change C)) (old new : Relations C) → All (λ (c : Change C). (fact_of c).rel < length old) changes → OnOk r (new ≡ taken_back cmp changes old)
@@ -356,8 +358,8 @@ module _ {C : Type 0} {cmp : C → C → Ordering} (o : IsTotalOrder cmp) (exact
   reverted r changes old new all done =
       on_ok_weaker r
       (λ is before instance fits e.
-          is ∙ ap (λ later. taken_back cmp changes later) e
-          ∙ all_back changes before instance
-              (subst (λ (n : ℕ). All (λ (c : Change C). (fact_of c).rel < n) changes) (ap (λ (later : Relations C). length later) e ∙ length_after_changes cmp changes before) all)
-              fits)
+      is ∙ ap (λ later. taken_back cmp changes later) e
+      ∙ all_back changes before instance
+      (subst (λ (n : ℕ). All (λ (c : Change C). (fact_of c).rel < n) changes) (ap (λ (later : Relations C). length later) e ∙ length_after_changes cmp changes before) all)
+      fits)
       done

@@ -4,9 +4,9 @@ ghost use Rattle.dbn_instance.specs.FactOrder.{fact_cmp};
 ghost use Rattle.dbn_instance.specs.Facts.{AreInRange, is_among, lost_facts, gained_facts, net_changes, after_action, after_changes, AllFit};
 ghost use Rattle.dbn_instance.specs.declared.fact.Change.TheVariants.{Plus, Minus};
 
-use super::fact::{Change, Changes, Fact, Facts, copy_row};
+use super::fact::{Change, Changes, Fact, Facts};
 use super::instance::Instance;
-use dbn_value::Cell;
+use dbn_value::{Cell, CopyIn};
 use sqlite_items::Items;
 use std::alloc::{AllocError, Global};
 use std::collections::BTreeSet;
@@ -14,7 +14,12 @@ use std::collections::BTreeSet;
 /// The shortest list of changes that leads from the instance to what an action with these deleted and added facts makes of it:
 /// first a Minus for each deleted fact that is there and not added, and then a Plus for each added fact that is not there,
 /// each once, each part by relation and row. An error is want of memory.
-pub fn net_changes<C: Cell>(alloc: Global, deletes: &Facts<C>, adds: &Facts<C>, instance: &Instance<C>) -> Result<Changes<C>, AllocError>
+pub fn net_changes<C: Cell>(
+    alloc: Global,
+    deletes: &Facts<C>,
+    adds: &Facts<C>,
+    instance: &Instance<C>,
+) -> Result<Changes<C>, AllocError>
     requires deletes { AreInRange instance.now deletes.now }
     requires adds { AreInRange instance.now adds.now }
     ensures exact { IfOk result (λ changes. changes ≡ net_changes C.cmp deletes.now adds.now instance.now) }
@@ -31,7 +36,12 @@ pub fn net_changes<C: Cell>(alloc: Global, deletes: &Facts<C>, adds: &Facts<C>, 
 }
 
 /// The deleted facts that are there and not added.
-fn lost<C: Cell>(alloc: Global, deletes: &[Fact<C>], adds: &[Fact<C>], instance: &Instance<C>) -> Result<BTreeSet<Fact<C>>, AllocError>
+fn lost<C: Cell>(
+    alloc: Global,
+    deletes: &[Fact<C>],
+    adds: &[Fact<C>],
+    instance: &Instance<C>,
+) -> Result<BTreeSet<Fact<C>>, AllocError>
     requires { AreInRange instance.now deletes.now }
     ensures { IfOk result (λ lost. lost.keys ≡ lost_facts C.cmp deletes.now adds.now instance.now) }
 {
@@ -44,7 +54,11 @@ fn lost<C: Cell>(alloc: Global, deletes: &[Fact<C>], adds: &[Fact<C>], instance:
 }
 
 /// The added facts that are not there.
-fn gained<C: Cell>(alloc: Global, adds: &[Fact<C>], instance: &Instance<C>) -> Result<BTreeSet<Fact<C>>, AllocError>
+fn gained<C: Cell>(
+    alloc: Global,
+    adds: &[Fact<C>],
+    instance: &Instance<C>,
+) -> Result<BTreeSet<Fact<C>>, AllocError>
     requires { AreInRange instance.now adds.now }
     ensures { IfOk result (λ gained. gained.keys ≡ gained_facts C.cmp adds.now instance.now) }
 {
@@ -57,12 +71,16 @@ fn gained<C: Cell>(alloc: Global, adds: &[Fact<C>], instance: &Instance<C>) -> R
 }
 
 /// Adds a copy of the fact to the set, where it is wanted.
-fn keep<C: Cell>(set: &mut BTreeSet<Fact<C>>, alloc: Global, fact: &Fact<C>, wanted: bool) -> Result<(), AllocError>
+fn keep<C: Cell>(
+    set: &mut BTreeSet<Fact<C>>,
+    alloc: Global,
+    fact: &Fact<C>,
+    wanted: bool,
+) -> Result<(), AllocError>
     ensures { OnOk result (set.new.keys ≡ (if wanted then insert_key (fact_cmp C.cmp) set.old.keys fact.now else set.old.keys)) }
 {
     if wanted {
-        let row = copy_row(alloc, &fact.row)?;
-        set.insert(Fact { rel: fact.rel, row })?;
+        set.insert(fact.copy_in(alloc)?)?;
     }
     Ok(())
 }
@@ -74,7 +92,10 @@ fn is_among<C: Cell>(facts: &[Fact<C>], fact: &Fact<C>) -> bool
     facts.iter().any(|other| fact.cmp(other).is_eq())
 }
 
-fn push_minuses<C: Cell>(changes: &mut Changes<C>, facts: BTreeSet<Fact<C>>) -> Result<(), AllocError>
+fn push_minuses<C: Cell>(
+    changes: &mut Changes<C>,
+    facts: BTreeSet<Fact<C>>,
+) -> Result<(), AllocError>
     ensures { OnOk result (changes.new ≡ changes.old ++ map (λ f. Minus f) facts.keys) }
 {
     for fact in facts {
@@ -83,7 +104,10 @@ fn push_minuses<C: Cell>(changes: &mut Changes<C>, facts: BTreeSet<Fact<C>>) -> 
     Ok(())
 }
 
-fn push_pluses<C: Cell>(changes: &mut Changes<C>, facts: BTreeSet<Fact<C>>) -> Result<(), AllocError>
+fn push_pluses<C: Cell>(
+    changes: &mut Changes<C>,
+    facts: BTreeSet<Fact<C>>,
+) -> Result<(), AllocError>
     ensures { OnOk result (changes.new ≡ changes.old ++ map (λ f. Plus f) facts.keys) }
 {
     for fact in facts {

@@ -1,6 +1,6 @@
 ghost use Rattle.std.specs.Prelude.{◌≡◌, ◌++◌, map, IfOk, OnOk};
 ghost use Rattle.std.specs.Option.{option_copied};
-ghost use Rattle.dbn_instance.specs.Grounding.{var_eq, arg_of, value_of, grounded_fact, grounded};
+ghost use Rattle.dbn_instance.specs.Grounding.{arg_of, value_of, grounded_fact, grounded};
 
 use super::fact::{Fact, FactPattern, FactPatterns, Facts};
 use dbn_value::{Cell, ColType, Row, Term, TypedVars, Value, Var};
@@ -9,25 +9,48 @@ use std::alloc::{AllocError, Global};
 
 /// The facts of the patterns, in their order, with the arguments in the place of the parameters.
 /// A variable that is no parameter stands for the int 0. An error is want of memory.
-pub fn ground(alloc: Global, patterns: &FactPatterns, params: &TypedVars, args: &Row<Value>) -> Result<Facts<Value>, AllocError>
+pub fn ground(
+    alloc: Global,
+    patterns: &FactPatterns,
+    params: &TypedVars,
+    args: &Row<Value>,
+) -> Result<Facts<Value>, AllocError>
     ensures { IfOk result (λ facts. facts ≡ grounded params.now args.now patterns.now) }
 {
-    ground_all(alloc, patterns.as_slice(), params.as_slice(), args.as_slice())
+    ground_all(
+        alloc,
+        patterns.as_slice(),
+        params.as_slice(),
+        args.as_slice(),
+    )
 }
 
-fn ground_all(alloc: Global, patterns: &[FactPattern], params: &[(Var, ColType)], args: &[Value]) -> Result<Facts<Value>, AllocError>
+fn ground_all(
+    alloc: Global,
+    patterns: &[FactPattern],
+    params: &[(Var, ColType)],
+    args: &[Value],
+) -> Result<Facts<Value>, AllocError>
     ensures { IfOk result (λ facts. facts ≡ grounded params.now args.now patterns.now) }
 {
     let mut facts = Items::new(alloc);
     for pattern in patterns {
         let row = ground_row(alloc, pattern.terms.as_slice(), params, args)?;
-        facts.push(Fact { rel: pattern.rel, row })?;
+        facts.push(Fact {
+            rel: pattern.rel,
+            row,
+        })?;
     }
     Ok(facts)
 }
 
 /// The values of the terms, as a row.
-fn ground_row(alloc: Global, terms: &[Term], params: &[(Var, ColType)], args: &[Value]) -> Result<Row<Value>, AllocError>
+fn ground_row(
+    alloc: Global,
+    terms: &[Term],
+    params: &[(Var, ColType)],
+    args: &[Value],
+) -> Result<Row<Value>, AllocError>
     ensures { IfOk result (λ row. row ≡ map (value_of params.now args.now) terms.now) }
 {
     let mut cells = Vec::new(alloc);
@@ -38,7 +61,12 @@ fn ground_row(alloc: Global, terms: &[Term], params: &[(Var, ColType)], args: &[
 }
 
 /// The value of the term.
-fn ground_term(alloc: Global, term: &Term, params: &[(Var, ColType)], args: &[Value]) -> Result<Value, AllocError>
+fn ground_term(
+    alloc: Global,
+    term: &Term,
+    params: &[(Var, ColType)],
+    args: &[Value],
+) -> Result<Value, AllocError>
     ensures { IfOk result (λ value. value ≡ value_of params.now args.now term.now) }
 {
     match term {
@@ -59,7 +87,7 @@ fn arg_of<'a>(params: &[(Var, ColType)], args: &'a [Value], var: &Var) -> Option
         [(param, _), params @ ..] => match args {
             [] => None,
             [arg, args @ ..] => {
-                if is_same(var, param) {
+                if var.same(param) {
                     Some(arg)
                 } else {
                     arg_of(params, args, var)
@@ -67,11 +95,4 @@ fn arg_of<'a>(params: &[(Var, ColType)], args: &'a [Value], var: &Var) -> Option
             }
         },
     }
-}
-
-/// Whether the two variables have one name and one mark.
-fn is_same(a: &Var, b: &Var) -> bool
-    ensures { result ≡ var_eq a.now b.now }
-{
-    a.name.as_bytes().cmp(b.name.as_bytes()).is_eq() && a.mark == b.mark
 }

@@ -5,7 +5,6 @@ mod effect;
 mod fact;
 mod grounding;
 mod instance;
-
 mod relation;
 
 pub use effect::net_changes;
@@ -13,3 +12,5 @@ pub use fact::{Action, Change, Changes, Fact, FactPattern, FactPatterns, Facts};
 pub use grounding::ground;
 pub use instance::Instance;
 
+#[cfg(test)]
+mod tests;

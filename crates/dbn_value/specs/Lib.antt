@@ -1,10 +1,9 @@
 pub mod Ascending
 pub mod Coding
+pub mod Members
 pub mod Names
 pub mod Order
 pub mod Picked
-pub mod Members
-pub mod Order
 pub mod Sets
 pub mod Spelling
 pub mod Text
