@@ -1,8 +1,7 @@
 -- Facts from patterns: arguments in the place of parameters.
-use Rattle.std.specs.Prelude.{ℕ, pos, Bool, ◌&&◌, ◌==◌, List, [], ◌∷◌, map, Option, Some, None, if◌then◌else◌}
-use Rattle.std.specs.Ordering.{nat_cmp, is_eq}
-use Rattle.std.specs.Cmp.Lexicographic.{slice_cmp}
+use Rattle.std.specs.Prelude.{pos, List, [], ◌∷◌, map, Option, Some, None, if◌then◌else◌}
 use Rattle.std.specs.Option.{unwrap_or}
+use Rattle.dbn_value.specs.Variables.{var_eq}
 use Rattle.dbn_value.specs.declared.value.Value.{Value}
 use Rattle.dbn_value.specs.declared.value.Value.TheVariants.{Int}
 use Rattle.dbn_value.specs.declared.value.ColType.{ColType}
@@ -11,10 +10,6 @@ use Rattle.dbn_value.specs.declared.term.Term.{Term}
 use Rattle.dbn_value.specs.declared.term.Term.TheVariants as term
 use Rattle.dbn_instance.specs.declared.fact.Fact.{Fact}
 use Rattle.dbn_instance.specs.declared.fact.FactPattern.{FactPattern}
-
--- one name and one mark
-abbrev pub var_eq : Var → Var → Bool
-var_eq x y = is_eq (slice_cmp nat_cmp x.name y.name) && x.mark == y.mark
 
 -- the argument at the place of the first parameter that is x
 abbrev pub arg_of : List (Var × ColType) → List Value → Var → Option Value

@@ -4,9 +4,9 @@ ghost use Rattle.dbn_instance.specs.FactOrder.{fact_cmp};
 ghost use Rattle.dbn_instance.specs.Facts.{AreInRange, is_among, lost_facts, gained_facts, net_changes, after_action, after_changes, AllFit};
 ghost use Rattle.dbn_instance.specs.declared.fact.Change.TheVariants.{Plus, Minus};
 
-use super::fact::{Change, Changes, Fact, Facts, copy_row};
+use super::fact::{Change, Changes, Fact, Facts};
 use super::instance::Instance;
-use dbn_value::Cell;
+use dbn_value::{Cell, CopyIn};
 use sqlite_items::Items;
 use std::alloc::{AllocError, Global};
 use std::collections::BTreeSet;
@@ -80,8 +80,7 @@ fn keep<C: Cell>(
     ensures { OnOk result (set.new.keys ≡ (if wanted then insert_key (fact_cmp C.cmp) set.old.keys fact.now else set.old.keys)) }
 {
     if wanted {
-        let row = copy_row(alloc, &fact.row)?;
-        set.insert(Fact { rel: fact.rel, row })?;
+        set.insert(fact.copy_in(alloc)?)?;
     }
     Ok(())
 }

@@ -1,10 +1,10 @@
-ghost use Rattle.std.specs.Prelude.{◌≡◌, refl, IfOk};
+ghost use Rattle.std.specs.Prelude.{refl};
 ghost use Rattle.std.specs.Ordering.{eq_by_cmp, as_partial_cmp};
 ghost use Rattle.std.specs.Cmp.{partial_equiv_from_equiv, eq_by_cmp_equiv, partial_order_from_total};
 ghost use Rattle.std.specs.Cmp.Lexicographic.{slice_cmp, lists_total};
 ghost use Rattle.dbn_instance.specs.FactOrder.{fact_cmp, fact_total};
 
-use dbn_value::{Cell, Name, Row, Terms, TypedVars};
+use dbn_value::{Cell, CopyIn, Name, Row, Terms, TypedVars};
 use sqlite_items::Items;
 use std::alloc::{AllocError, Global};
 use std::cmp::Ordering;
@@ -86,20 +86,31 @@ impl<C: Ord> Ord for Fact<C> {
     }
 }
 
-/// A copy of the row. An error is want of memory.
-pub(crate) fn copy_row<C: Cell>(alloc: Global, row: &Row<C>) -> Result<Row<C>, AllocError>
-    ensures { IfOk result (λ copy. copy ≡ row.now) }
-{
-    copy_cells(alloc, row.as_slice())
+impl<C: Cell> CopyIn for Fact<C> {
+    fn copy_in(&self, alloc: Global) -> Result<Fact<C>, AllocError> {
+        Ok(Fact {
+            rel: self.rel,
+            row: self.row.copy_in(alloc)?,
+        })
+    }
 }
 
-/// A row of copies of the cells.
-fn copy_cells<C: Cell>(alloc: Global, cells: &[C]) -> Result<Row<C>, AllocError>
-    ensures { IfOk result (λ row. row ≡ cells.now) }
-{
-    let mut copy = Vec::new(alloc);
-    for cell in cells {
-        copy.push(cell.copy_in(alloc)?)?;
+impl CopyIn for FactPattern {
+    fn copy_in(&self, alloc: Global) -> Result<FactPattern, AllocError> {
+        Ok(FactPattern {
+            rel: self.rel,
+            terms: self.terms.copy_in(alloc)?,
+        })
     }
-    Ok(Row::from_vec(copy))
+}
+
+impl CopyIn for Action {
+    fn copy_in(&self, alloc: Global) -> Result<Action, AllocError> {
+        Ok(Action {
+            name: self.name.copy_in(alloc)?,
+            params: self.params.copy_in(alloc)?,
+            deletes: self.deletes.copy_in(alloc)?,
+            adds: self.adds.copy_in(alloc)?,
+        })
+    }
 }

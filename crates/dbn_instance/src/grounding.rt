@@ -1,6 +1,6 @@
 ghost use Rattle.std.specs.Prelude.{◌≡◌, ◌++◌, map, IfOk, OnOk};
 ghost use Rattle.std.specs.Option.{option_copied};
-ghost use Rattle.dbn_instance.specs.Grounding.{var_eq, arg_of, value_of, grounded_fact, grounded};
+ghost use Rattle.dbn_instance.specs.Grounding.{arg_of, value_of, grounded_fact, grounded};
 
 use super::fact::{Fact, FactPattern, FactPatterns, Facts};
 use dbn_value::{Cell, ColType, Row, Term, TypedVars, Value, Var};
@@ -87,7 +87,7 @@ fn arg_of<'a>(params: &[(Var, ColType)], args: &'a [Value], var: &Var) -> Option
         [(param, _), params @ ..] => match args {
             [] => None,
             [arg, args @ ..] => {
-                if is_same(var, param) {
+                if var.same(param) {
                     Some(arg)
                 } else {
                     arg_of(params, args, var)
@@ -95,11 +95,4 @@ fn arg_of<'a>(params: &[(Var, ColType)], args: &'a [Value], var: &Var) -> Option
             }
         },
     }
-}
-
-/// Whether the two variables have one name and one mark.
-fn is_same(a: &Var, b: &Var) -> bool
-    ensures { result ≡ var_eq a.now b.now }
-{
-    a.name.as_bytes().cmp(b.name.as_bytes()).is_eq() && a.mark == b.mark
 }

@@ -4,9 +4,9 @@ ghost use Rattle.std.specs.List.Sorted.{IsStrictlySortedBy};
 ghost use Rattle.std.specs.Cmp.Lexicographic.{slice_cmp};
 ghost use Rattle.dbn_instance.specs.Facts.{Relations, rows_of, fact_of, turned, has_fact, with_fact, without_fact, changed, after_changes, taken_back, AllFit, IsInstance};
 
-use super::fact::{Change, Changes, Fact, copy_row};
+use super::fact::{Change, Changes, Fact};
 use super::relation::Relation;
-use dbn_value::{Cell, RowsOf};
+use dbn_value::{Cell, CopyIn, RowsOf};
 use std::alloc::{AllocError, Global};
 use std::marker::Model;
 
@@ -125,7 +125,7 @@ impl<C: Cell> Instance<C> {
         ensures ok { OnOk result (self.new ≡ with_fact C.cmp self.old fact.now) }
         ensures err { OnErr result (self.new ≡ self.old) }
     {
-        let row = copy_row(alloc, &fact.row)?;
+        let row = fact.row.copy_in(alloc)?;
         let relation = &mut self.relations[fact.rel];
         relation.insert(row)?;
         Ok(())

@@ -6,8 +6,7 @@ ghost use Rattle.std.specs.BTreeSet.{insert_key};
 ghost use Rattle.std.specs.Set.{remove_key};
 ghost use Rattle.std.specs.Cmp.Lexicographic.{slice_cmp};
 
-use super::fact::copy_row;
-use dbn_value::{Cell, Row, RowsOf};
+use dbn_value::{Cell, CopyIn, Row, RowsOf};
 use sqlite_items::Items;
 use std::alloc::{AllocError, Global};
 use std::collections::BTreeSet;
@@ -53,7 +52,7 @@ impl<C: Cell> Relation<C> {
     {
         let mut rows = Items::new(alloc);
         for row in &self.rows {
-            rows.push(copy_row(alloc, row)?)?;
+            rows.push(row.copy_in(alloc)?)?;
         }
         Ok(rows)
     }

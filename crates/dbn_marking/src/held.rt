@@ -3,7 +3,7 @@ ghost use Rattle.std.specs.Cmp.Lexicographic.{slice_cmp};
 ghost use Rattle.std.specs.BTreeMap.{is_at};
 ghost use Rattle.dbn_marking.specs.Counts.{count_of, added, taken, IsCounted};
 
-use dbn_value::{Cell, Row};
+use dbn_value::{Cell, CopyIn, Row};
 use sqlite_items::Items;
 use std::alloc::{AllocError, Global};
 use std::collections::BTreeMap;
@@ -70,7 +70,7 @@ impl<C: Cell> Held<C> {
     {
         let mut rows = Items::new(alloc);
         for (row, count) in &self.rows {
-            rows.push((copy_row(alloc, row.as_slice())?, *count))?;
+            rows.push((row.copy_in(alloc)?, *count))?;
         }
         Ok(rows)
     }
@@ -115,15 +115,4 @@ impl<C: Cell> Held<C> {
         }
         false
     }
-}
-
-/// A copy of the row of these cells.
-fn copy_row<C: Cell>(alloc: Global, cells: &[C]) -> Result<Row<C>, AllocError>
-    ensures { IfOk result (λ row. row ≡ cells.now) }
-{
-    let mut copy = Vec::new(alloc);
-    for cell in cells {
-        copy.push(cell.copy_in(alloc)?)?;
-    }
-    Ok(Row::from_vec(copy))
 }

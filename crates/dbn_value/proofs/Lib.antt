@@ -1,10 +1,10 @@
-pub mod Names
-pub mod Numbers
-pub mod Rows
-pub mod Spellings
-pub mod Texts
 pub mod AscendingLaws
 pub mod CollectedLaws
 pub mod EntryLaws
 pub mod MemberLaws
+pub mod Names
+pub mod Numbers
+pub mod Rows
 pub mod SetLaws
+pub mod Spellings
+pub mod Texts
