@@ -1,18 +1,18 @@
 -- A safe formula whose conjuncts are put in order is safe from left to right, and means what it meant.
-use Rattle.std.proofs.Common.{◌≡◌, ℕ, zero, suc, ◌⊎◌, inl, inr, ⊎_elim, Bool, true, false, cond, not, ◌&&◌, ◌||◌, List, [], ◌∷◌, ◌++◌, map, refl, ap, sym, ◌∙◌, subst, Option, Some, None, length}
+use Rattle.std.proofs.Common.{◌≡◌, ℕ, zero, suc, ⊎_elim, Bool, true, false, not, ◌&&◌, ◌||◌, List, [], ◌∷◌, ◌++◌, map, refl, ap, sym, ◌∙◌, subst, Option, Some, None, length}
 use Rattle.std.specs.Option.{option_map_or}
 use Rattle.std.specs.Cmp.{both_ways}
 use Rattle.std.specs.List.{list_any, list_all, flat_map, AllByRecursion}
 use Rattle.std.proofs.lemmas.Bool.{and_parts, and_from, true≢false, not-true, not_from_false, false_from_ne_true}
 use Rattle.dbn_value.specs.Members.{In}
-use Rattle.dbn_value.proofs.MemberLaws.{any_in, in_any, all_at, all_from, fails_at, filter_all, in_append, append_left, append_right, in_map, in_flat, flat_in, in_filter, filter_in, recursion_at}
+use Rattle.dbn_value.proofs.MemberLaws.{any_in, in_any, all_at, all_from, fails_at, filter_all, in_append, append_left, append_right, in_map, flat_in, recursion_at}
 use Rattle.dbn_value.specs.declared.term.Var.{Var}
 use Rattle.dbn_value.specs.declared.term.Term.{Term}
 use Rattle.dbn_value.specs.declared.term.Term.TheVariants as term
 use Rattle.dbn_value.specs.declared.term.Cmp.{Cmp}
 use Rattle.dbn_value.specs.declared.term.Cmp.TheVariants as cmp
 use Rattle.dbn_formula.specs.Variables.{TypedVars, is_in, binds}
-use Rattle.dbn_formula.specs.Holds.{Env, Domain, Instance, some_choice, every_choice, holds_over}
+use Rattle.dbn_formula.specs.Holds.{Env, Domain, Instance, every_choice, holds_over}
 use Rattle.dbn_formula.specs.Free.{unhidden, occurrences}
 use Rattle.dbn_formula.specs.Answers.{constants}
 use Rattle.dbn_formula.specs.Typing.{Shapes, entered, types_fit}
@@ -20,17 +20,17 @@ use Rattle.dbn_formula.specs.Distinct.{distinct_vars, distinct}
 use Rattle.dbn_formula.specs.Safe.{all_in, known, test_safe, outside, in_turn, safe, steady, clear, arranged, as_level}
 use Rattle.dbn_formula.specs.declared.formula.Formula.{Formula}
 use Rattle.dbn_formula.specs.declared.formula.Formula.TheVariants.{Atom, Test, And, Or, Not, Implies, Exists, Forall}
-use Rattle.dbn_formula.proofs.Induction.{Steps, induction}
+use Rattle.dbn_formula.proofs.Induction.{induction}
 use Rattle.dbn_formula.proofs.NormalMeaning.{some_alike}
 use Rattle.dbn_formula.proofs.Truth.{all_alike, everywhere}
-use Rattle.dbn_formula.proofs.HoldsLaws.{holds_atom, holds_test, holds_and, holds_or, holds_not, holds_implies, holds_exists, holds_forall}
+use Rattle.dbn_formula.proofs.HoldsLaws.{holds_and, holds_or, holds_not, holds_implies, holds_exists, holds_forall}
 use Rattle.dbn_formula.proofs.FreeLaws.{occurrences_and, occurrences_or, occurrences_not, occurrences_implies, occurrences_exists, occurrences_forall}
 use Rattle.dbn_formula.proofs.ConstantsLaws.{constants_and, constants_or, constants_not, constants_implies, constants_exists, constants_forall}
 use Rattle.dbn_formula.proofs.TypingLaws.{types_and, types_or, types_not, types_implies, types_exists, types_forall}
 use Rattle.dbn_formula.proofs.DistinctLaws.{distinct_and, distinct_or, distinct_not, distinct_implies, distinct_exists, distinct_forall}
 use Rattle.dbn_formula.proofs.SafeLaws.{safe_and, safe_or, safe_not, safe_implies, safe_exists, safe_forall, safe_test, steady_atom, steady_test, steady_and, steady_or, steady_not, steady_implies, steady_exists, steady_forall, clear_atom, clear_test, clear_and, clear_or, clear_not, clear_implies, clear_exists, clear_forall, arranged_atom, arranged_test, arranged_and, arranged_or, arranged_not, arranged_implies, arranged_exists, arranged_forall}
 use Rattle.dbn_formula.proofs.VariableLaws.{in_of_is, is_of_in, in_unhidden, unhidden_in}
-use Rattle.dbn_formula.proofs.OrderOfParts.{first_safe, taken, order, taken_is, order_is, Split, SplitBy, first_split, Ordered, all_arranged, ordered, all_ordered, any_ordered, Alike, flat_ordered}
+use Rattle.dbn_formula.proofs.OrderOfParts.{first_safe, taken, order, taken_is, order_is, SplitBy, first_split, all_arranged, ordered, all_ordered, any_ordered, Alike, flat_ordered}
 
 -- ---- an arranged formula means the same, has the same types and quantifiers, variables and constants
 

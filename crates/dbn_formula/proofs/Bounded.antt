@@ -1,10 +1,9 @@
 -- Where a formula that is safe from left to right holds, its free variables have values in the domain.
-use Rattle.std.proofs.Common.{◌≡◌, ℕ, ◌⊎◌, inl, inr, ⊎_elim, Bool, true, false, cond, not, ◌&&◌, ◌||◌, List, [], ◌∷◌, ◌++◌, map, refl, ap, sym, ◌∙◌, subst, Option, Some, None}
+use Rattle.std.proofs.Common.{◌≡◌, ℕ, ◌⊎◌, inl, inr, ⊎_elim, true, false, not, ◌&&◌, ◌||◌, List, [], ◌∷◌, ◌++◌, map, refl, ap, sym, ◌∙◌, subst, Option, Some, None}
 use Rattle.std.specs.Prelude.{slice_index_or}
-use Rattle.std.specs.Ordering.{is_eq, eq_by_cmp}
 use Rattle.std.specs.Cmp.{Equal-is}
 use Rattle.std.specs.List.{list_any, list_all, flat_map, AllByRecursion}
-use Rattle.std.proofs.lemmas.Bool.{and_parts, or_cases, true≢false, false≢true, not-true, false_from_ne_true}
+use Rattle.std.proofs.lemmas.Bool.{and_parts, or_cases, true≢false, not-true}
 use Rattle.dbn_value.specs.Members.{In}
 use Rattle.dbn_value.proofs.MemberLaws.{any_in, all_at, fails_at, in_append, append_left, append_right}
 use Rattle.dbn_value.specs.Order.{value_cmp, row_cmp, value_type, exact_values, exact_rows}
@@ -16,22 +15,22 @@ use Rattle.dbn_value.specs.declared.term.Term.TheVariants as term
 use Rattle.dbn_value.specs.declared.term.Cmp.{Cmp}
 use Rattle.dbn_value.specs.declared.term.Cmp.TheVariants as cmp
 use Rattle.dbn_formula.specs.Variables.{TypedVars, type_eq, is_in, binds}
-use Rattle.dbn_formula.specs.Holds.{Env, Domain, Instance, lookup, value_of, meets, row_eq, some_choice, holds_over}
-use Rattle.dbn_formula.specs.Free.{variable_of, unhidden, occurrences}
+use Rattle.dbn_formula.specs.Holds.{Env, Domain, Instance, lookup, value_of, meets, row_eq, holds_over}
+use Rattle.dbn_formula.specs.Free.{variable_of, occurrences}
 use Rattle.dbn_formula.specs.Answers.{constant_of, constants}
 use Rattle.dbn_formula.specs.Typing.{Shapes, entered, type_in, term_type, agree, terms_fit, sides_fit, types_fit}
 use Rattle.dbn_formula.specs.Safe.{all_in, known, test_safe, in_turn, steady, as_level}
 use Rattle.dbn_formula.specs.Ready.{IsValued, AreValued, RowIn, RowsIn, ValuesIn}
 use Rattle.dbn_formula.specs.declared.formula.Formula.{Formula}
-use Rattle.dbn_formula.specs.declared.formula.Formula.TheVariants.{Atom, Test, And, Or, Not, Implies, Exists, Forall}
-use Rattle.dbn_formula.proofs.Induction.{Steps, induction}
-use Rattle.dbn_formula.proofs.HoldsLaws.{holds_atom, holds_test, holds_and, holds_or, holds_not, holds_exists}
+use Rattle.dbn_formula.specs.declared.formula.Formula.TheVariants.{Atom, Test, And, Or, Not, Exists}
+use Rattle.dbn_formula.proofs.Induction.{induction}
+use Rattle.dbn_formula.proofs.HoldsLaws.{holds_atom, holds_test, holds_and, holds_or, holds_exists}
 use Rattle.dbn_formula.proofs.FreeLaws.{occurrences_atom, occurrences_test, occurrences_and, occurrences_or, occurrences_not, occurrences_exists}
-use Rattle.dbn_formula.proofs.ConstantsLaws.{constants_test, constants_and, constants_or, constants_not, constants_exists}
+use Rattle.dbn_formula.proofs.ConstantsLaws.{constants_test, constants_and, constants_or, constants_exists}
 use Rattle.dbn_formula.proofs.TypingLaws.{types_atom, types_test, types_and, types_or, types_exists}
 use Rattle.dbn_formula.proofs.SafeLaws.{steady_test, steady_and, steady_or, steady_not, steady_implies, steady_exists, steady_forall}
 use Rattle.dbn_formula.proofs.VariableLaws.{type_same, type_itself, in_of_is, in_unhidden, unhidden_in}
-use Rattle.dbn_formula.proofs.Choices.{Chosen, choice_out, type_of_bound, entered_binds, valued_inside, valued_outside}
+use Rattle.dbn_formula.proofs.Choices.{choice_out, type_of_bound, entered_binds, valued_inside, valued_outside}
 
 -- ---- types that agree
 

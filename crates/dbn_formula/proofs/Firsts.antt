@@ -1,15 +1,13 @@
 -- The first occurrences in a list with one more variable.
-use Rattle.std.proofs.Common.{ℕ, ◌+◌, ◌<◌, length, get_or, take, ◌≡◌, Bool, true, false, cond, not, ◌||◌, List, [], ◌∷◌, ◌++◌, refl, ap, sym, ◌∙◌, subst}
-use Rattle.std.specs.List.{filter, list_any}
+use Rattle.std.proofs.Common.{ℕ, ◌+◌, ◌<◌, length, get_or, take, ◌≡◌, Bool, true, false, cond, not, ◌||◌, List, [], ◌∷◌, ◌++◌, refl, ap, sym, ◌∙◌}
+use Rattle.std.specs.List.{filter}
 use Rattle.std.proofs.lemmas.List.{append-nil}
 use Rattle.std.proofs.lemmas.List.Elements.{filter-append}
-use Rattle.std.proofs.lemmas.Bool.{or_left, or_right, or_from, not_from_true, not_from_false, false_from_ne_true}
+use Rattle.std.proofs.lemmas.Bool.{or_left, or_right, or_from, false_from_ne_true}
 use Rattle.std.proofs.lemmas.List.{take_more}
-use Rattle.dbn_value.specs.Members.{In}
-use Rattle.dbn_value.proofs.MemberLaws.{filter_in, in_filter}
 use Rattle.dbn_value.specs.declared.term.Var.{Var}
 use Rattle.dbn_formula.specs.Variables.{var_eq, is_in, firsts, with_first}
-use Rattle.dbn_formula.proofs.VariableLaws.{var_same, var_alike, var_itself, var_turned, is_of_in, in_of_is}
+use Rattle.dbn_formula.proofs.VariableLaws.{var_same, var_alike, var_turned}
 
 -- x among the others than y is x among all, unless it is y
 kept : (x y : Var) (xs : List Var) → var_eq y x ≡ false → is_in x (filter (λ z. not (var_eq y z)) xs) ≡ is_in x xs

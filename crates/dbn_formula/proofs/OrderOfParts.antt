@@ -1,9 +1,8 @@
 -- Conjuncts in the order in which the safety test takes them, said of formulas.
-use Rattle.std.proofs.Common.{◌≡◌, ℕ, zero, suc, ◌⊎◌, inl, inr, ⊎_elim, Bool, true, false, cond, List, [], ◌∷◌, ◌++◌, map, refl, ap, sym, ◌∙◌, subst, Option, Some, None, length}
+use Rattle.std.proofs.Common.{◌≡◌, ℕ, zero, suc, ◌⊎◌, inl, inr, ⊎_elim, Bool, true, false, cond, List, [], ◌∷◌, ◌++◌, map, refl, ap, sym, ◌∙◌, subst, Option, Some, None}
 use Rattle.std.specs.Option.{option_map, option_map_or}
 use Rattle.std.specs.List.{list_all, list_any, flat_map}
 use Rattle.std.specs.Cmp.{both_ways}
-use Rattle.std.proofs.lemmas.Bool.{true≢false}
 use Rattle.dbn_value.specs.Members.{In}
 use Rattle.dbn_value.proofs.MemberLaws.{any_in, in_any, all_at, all_from, in_map, map_in, in_flat, flat_in}
 use Rattle.dbn_value.specs.declared.term.Var.{Var}

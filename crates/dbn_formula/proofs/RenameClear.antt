@@ -1,22 +1,19 @@
 -- A formula that is renamed apart quantifies no variable that is bound or free beside the quantifier.
-use Rattle.std.proofs.Common.{◌≡◌, ℕ, ◌≤◌, ◌⊎◌, inl, inr, ⊎_elim, Bool, true, false, not, ◌&&◌, List, [], ◌∷◌, ◌++◌, map, refl, ap, sym, ◌∙◌, subst, arith, le_trans}
+use Rattle.std.proofs.Common.{◌≡◌, ℕ, ◌≤◌, inr, ⊎_elim, true, not, List, [], ◌∷◌, ◌++◌, map, refl, ap, sym, ◌∙◌, subst, arith, le_trans}
 use Rattle.std.specs.List.{list_any, list_all, flat_map, AllByRecursion}
-use Rattle.std.proofs.lemmas.Bool.{and_from, true≢false}
+use Rattle.std.proofs.lemmas.Bool.{and_from}
 use Rattle.dbn_value.specs.Members.{In}
 use Rattle.dbn_value.proofs.MemberLaws.{in_append, append_left, append_right, in_map, none_from}
 use Rattle.dbn_value.specs.declared.term.Var.{Var}
 use Rattle.dbn_formula.specs.declared.formula.Formula.{Formula}
-use Rattle.dbn_formula.specs.declared.formula.Formula.TheVariants.{Atom, Test, And, Or, Not, Implies, Exists, Forall}
-use Rattle.dbn_value.specs.declared.term.Term.{Term}
-use Rattle.dbn_value.specs.declared.term.Cmp.{Cmp}
 use Rattle.dbn_formula.specs.Variables.{TypedVars, binds}
 use Rattle.dbn_formula.specs.Free.{occurrences}
 use Rattle.dbn_formula.specs.Safe.{clear}
-use Rattle.dbn_formula.specs.Apart.{Renaming, marks, quantified_marks, next_mark, renamed_var, renamed_term, marked, fresh, last_mark, opened, renamed_at, last_at, renamed_all, renamed}
-use Rattle.dbn_formula.proofs.Induction.{Steps, induction}
+use Rattle.dbn_formula.specs.Apart.{Renaming, marks, quantified_marks, next_mark, renamed_var, renamed_term, fresh, last_mark, opened, renamed_at, last_at, renamed_all, renamed}
+use Rattle.dbn_formula.proofs.Induction.{induction}
 use Rattle.dbn_formula.proofs.SafeLaws.{clear_atom, clear_test, clear_and, clear_or, clear_not, clear_implies, clear_exists, clear_forall}
 use Rattle.dbn_formula.proofs.ApartLaws.{marks_and, marks_or, marks_not, marks_implies, marks_exists, marks_forall, renamed_atom, renamed_test, renamed_and, renamed_or, renamed_not, renamed_implies, renamed_exists, renamed_forall}
-use Rattle.dbn_formula.proofs.RenameLaws.{IsOld, AreOld, MarksIn, old_grows, more_old, next_above, last_mark_above, opened_old, last_above, nothing_renamed}
+use Rattle.dbn_formula.proofs.RenameLaws.{IsOld, AreOld, MarksIn, old_grows, more_old, last_mark_above, opened_old, last_above, nothing_renamed}
 use Rattle.dbn_formula.proofs.RenameFree.{are_marked, old_not_fresh, renames_free}
 
 -- every variable of the list was there before, where n was the last mark that was given

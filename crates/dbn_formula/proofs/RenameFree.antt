@@ -1,22 +1,19 @@
 -- Renaming apart renames the free variables, those of the whole formula to themselves, and keeps the constants.
-use Rattle.std.proofs.Common.{◌≡◌, ℕ, ◌≤◌, ◌⊎◌, inl, inr, ⊎_elim, Bool, true, false, cond, not, ◌||◌, List, [], ◌∷◌, ◌++◌, map, map-id, refl, ap, sym, ◌∙◌, subst, arith}
-use Rattle.std.specs.List.{list_any, flat_map, AllByRecursion}
+use Rattle.std.proofs.Common.{◌≡◌, ℕ, ◌≤◌, inl, inr, ⊎_elim, Bool, true, false, cond, not, ◌||◌, List, [], ◌∷◌, ◌++◌, map, map-id, refl, ap, sym, ◌∙◌, subst, arith}
+use Rattle.std.specs.List.{flat_map, AllByRecursion}
 use Rattle.std.proofs.lemmas.List.{map-append}
 use Rattle.std.proofs.lemmas.Bool.{or_left, or_right, or_parts}
 use Rattle.dbn_value.specs.Members.{In}
 use Rattle.dbn_value.proofs.MemberLaws.{in_append, append_left, append_right, in_filter}
-use Rattle.dbn_value.specs.declared.value.Value.{Value}
 use Rattle.dbn_value.specs.declared.term.Var.{Var}
 use Rattle.dbn_value.specs.declared.term.Term.{Term}
 use Rattle.dbn_value.specs.declared.term.Term.TheVariants as term
-use Rattle.dbn_value.specs.declared.term.Cmp.{Cmp}
 use Rattle.dbn_formula.specs.declared.formula.Formula.{Formula}
-use Rattle.dbn_formula.specs.declared.formula.Formula.TheVariants.{Atom, Test, And, Or, Not, Implies, Exists, Forall}
 use Rattle.dbn_formula.specs.Variables.{TypedVars, var_eq, binds, firsts}
 use Rattle.dbn_formula.specs.Free.{variable_of, unhidden, occurrences, free}
 use Rattle.dbn_formula.specs.Answers.{constant_of, constants}
-use Rattle.dbn_formula.specs.Apart.{Renaming, marks, term_marks, quantified_marks, next_mark, renamed_var, renamed_term, marked, fresh, last_mark, opened, renamed_at, last_at, renamed_all, last_all, renamed}
-use Rattle.dbn_formula.proofs.Induction.{Steps, induction}
+use Rattle.dbn_formula.specs.Apart.{Renaming, marks, term_marks, quantified_marks, next_mark, renamed_var, renamed_term, marked, fresh, last_mark, opened, renamed_at, last_at, renamed_all, renamed}
+use Rattle.dbn_formula.proofs.Induction.{induction}
 use Rattle.dbn_formula.proofs.FreeLaws.{occurrences_atom, occurrences_test, occurrences_and, occurrences_or, occurrences_not, occurrences_implies, occurrences_exists, occurrences_forall}
 use Rattle.dbn_formula.proofs.ConstantsLaws.{constants_atom, constants_test, constants_and, constants_or, constants_not, constants_implies, constants_exists, constants_forall}
 use Rattle.dbn_formula.proofs.ApartLaws.{marks_atom, marks_test, marks_and, marks_or, marks_not, marks_implies, marks_exists, marks_forall, renamed_atom, renamed_test, renamed_and, renamed_or, renamed_not, renamed_implies, renamed_exists, renamed_forall}

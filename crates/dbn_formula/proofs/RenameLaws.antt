@@ -1,8 +1,7 @@
 -- Renaming apart keeps what a formula means.
-use Rattle.std.proofs.Common.{◌≡◌, ℕ, ◌+◌, ◌<◌, ◌≤◌, ◌⊎◌, inl, inr, ⊎_elim, Bool, true, false, cond, not, ◌&&◌, ◌||◌, ◌==◌, nat_lt, if◌then◌else◌, List, [], ◌∷◌, ◌++◌, map, refl, ap, sym, ◌∙◌, subst, arith, le_trans, eqb-true, eq-eqb, ltb-true, ltb-false, true≢false}
+use Rattle.std.proofs.Common.{◌≡◌, ℕ, ◌+◌, ◌<◌, ◌≤◌, ◌⊎◌, inl, inr, ⊎_elim, Bool, true, false, cond, not, ◌&&◌, ◌||◌, ◌==◌, nat_lt, List, [], ◌∷◌, ◌++◌, map, refl, ap, sym, ◌∙◌, subst, arith, le_trans, eqb-true, eq-eqb, ltb-true, ltb-false, true≢false}
 use Rattle.std.specs.Prelude.{slice_index_or}
 use Rattle.std.specs.Ordering.{nat_cmp}
-use Rattle.std.specs.declared.cmp.Ordering.{Ordering}
 use Rattle.std.specs.declared.cmp.Ordering.TheVariants.{Less}
 use Rattle.std.specs.Cmp.{nat_cmp_total}
 use Rattle.std.specs.FinMap.{nat_cmp-IsAntisymmetric}
@@ -14,21 +13,18 @@ use Rattle.dbn_value.specs.Ascending.{ascending}
 use Rattle.dbn_value.proofs.MemberLaws.{append_left, append_right}
 use Rattle.dbn_value.proofs.AscendingLaws.{head_below, sorted_ascending, ascending_in}
 use Rattle.dbn_value.specs.declared.value.Value.{Value}
-use Rattle.dbn_value.specs.declared.value.ColType.{ColType}
 use Rattle.dbn_value.specs.declared.term.Var.{Var}
 use Rattle.dbn_value.specs.declared.term.Term.{Term}
 use Rattle.dbn_value.specs.declared.term.Term.TheVariants as term
-use Rattle.dbn_value.specs.declared.term.Cmp.{Cmp}
 use Rattle.dbn_value.specs.Order.{value_cmp}
 use Rattle.dbn_formula.specs.declared.formula.Formula.{Formula}
-use Rattle.dbn_formula.specs.declared.formula.Formula.TheVariants.{Atom, Test, And, Or, Not, Implies, Exists, Forall}
-use Rattle.dbn_formula.specs.Variables.{TypedVars, var_eq, binds}
+use Rattle.dbn_formula.specs.Variables.{TypedVars, var_eq}
 use Rattle.dbn_formula.specs.Holds.{Env, Domain, Instance, lookup, value_of, meets, row_eq, some_choice, every_choice, holds_over}
 use Rattle.dbn_formula.specs.Apart.{Renaming, marks, term_marks, quantified_marks, unused_from, next_mark, renamed_var, renamed_term, marked, fresh, last_mark, opened, renamed_at, last_at, renamed_all, last_all, renamed}
-use Rattle.dbn_formula.proofs.Induction.{Steps, induction}
+use Rattle.dbn_formula.proofs.Induction.{induction}
 use Rattle.dbn_formula.proofs.HoldsLaws.{holds_atom, holds_test, holds_and, holds_or, holds_not, holds_implies, holds_exists, holds_forall}
 use Rattle.dbn_formula.proofs.ApartLaws.{marks_atom, marks_test, marks_and, marks_or, marks_not, marks_implies, marks_exists, marks_forall, renamed_atom, renamed_test, renamed_and, renamed_or, renamed_not, renamed_implies, renamed_exists, renamed_forall, last_atom, last_test, last_and, last_or, last_not, last_implies, last_exists, last_forall}
-use Rattle.dbn_formula.proofs.VariableLaws.{var_same, var_itself, var_other}
+use Rattle.dbn_formula.proofs.VariableLaws.{var_itself, var_other}
 use Rattle.dbn_formula.proofs.Truth.{any_alike, all_alike, everywhere}
 
 -- ---- the marks that are given

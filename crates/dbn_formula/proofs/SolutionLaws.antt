@@ -1,9 +1,9 @@
 -- The solutions of an accepted query are exactly its answers; an accepted sentence holds exactly where its denial has none.
-use Rattle.std.proofs.Common.{◌≡◌, ℕ, zero, suc, ◌⊎◌, inl, inr, ⊎_elim, Bool, true, false, cond, not, ◌||◌, List, [], ◌∷◌, ◌++◌, map, refl, ap, sym, ◌∙◌, subst, Option, Some, None, if◌then◌else◌}
+use Rattle.std.proofs.Common.{◌≡◌, ℕ, zero, suc, inl, inr, Bool, true, false, cond, not, ◌||◌, List, [], ◌∷◌, ◌++◌, map, refl, ap, sym, ◌∙◌, subst, Some, None, if◌then◌else◌}
 use Rattle.std.specs.Prelude.{slice_index_or}
 use Rattle.std.specs.Cmp.{both_ways}
 use Rattle.std.specs.List.{list_all, flat_map, filter}
-use Rattle.std.proofs.lemmas.Bool.{and_parts, or_cases, true≢false, not-true, not-false, not_from_false, not_from_true, false_from_ne_true}
+use Rattle.std.proofs.lemmas.Bool.{and_parts, true≢false, not-true, not_from_false, false_from_ne_true}
 use Rattle.dbn_value.specs.Members.{In}
 use Rattle.dbn_value.specs.Ascending.{ascending, CellsIn}
 use Rattle.dbn_value.proofs.MemberLaws.{all_at, filter_in, flat_in, append_left, append_right}
@@ -12,21 +12,18 @@ use Rattle.dbn_value.specs.Order.{value_cmp, value_type, value_total, exact_valu
 use Rattle.dbn_value.specs.declared.value.Value.{Value}
 use Rattle.dbn_value.specs.declared.value.ColType.{ColType}
 use Rattle.dbn_value.specs.declared.term.Var.{Var}
-use Rattle.dbn_value.specs.declared.term.Term.{Term}
-use Rattle.dbn_value.specs.declared.term.Term.TheVariants as term
 use Rattle.dbn_formula.specs.Variables.{TypedVars, var_eq, type_eq, binds}
 use Rattle.dbn_formula.specs.Holds.{Env, Domain, Instance, lookup, holds_over}
 use Rattle.dbn_formula.specs.Free.{occurrences}
 use Rattle.dbn_formula.specs.Answers.{values_in, constants, domain, holds, bind, answers}
-use Rattle.dbn_formula.specs.Typing.{Shapes, type_in, arity_fits, types_fit, all_bound, type_fault}
-use Rattle.dbn_formula.specs.Normal.{normal, normal_at}
+use Rattle.dbn_formula.specs.Typing.{Shapes, type_in, arity_fits, types_fit, all_bound}
+use Rattle.dbn_formula.specs.Normal.{normal}
 use Rattle.dbn_formula.specs.Apart.{renamed}
 use Rattle.dbn_formula.specs.Distinct.{distinct_vars, distinct}
-use Rattle.dbn_formula.specs.Safe.{safe, steady, arranged, query_safe, sentence_safe}
-use Rattle.dbn_formula.specs.Solve.{is_empty, is_bound, solutions_over}
-use Rattle.dbn_formula.specs.Ready.{IsValued, AreValued, RowIn, RowsIn, ValuesIn, Covers, Ready}
+use Rattle.dbn_formula.specs.Safe.{safe, steady}
+use Rattle.dbn_formula.specs.Solve.{is_empty}
+use Rattle.dbn_formula.specs.Ready.{AreValued, RowIn, RowsIn, ValuesIn, Ready}
 use Rattle.dbn_formula.specs.Solutions.{solvable, solutions, HasShape, HasShapes, AcceptsQuery, AcceptsSentence, IsSolution}
-use Rattle.dbn_formula.specs.declared.typing.TypeFault.{TypeFault}
 use Rattle.dbn_formula.specs.declared.typing.TypeFault.TheVariants.{Arity, TypeClash, Unbound}
 use Rattle.dbn_formula.specs.declared.formula.Formula.{Formula}
 use Rattle.dbn_formula.specs.declared.formula.Formula.TheVariants.{Not}
@@ -40,7 +37,6 @@ use Rattle.dbn_formula.proofs.NormalConstants as values
 use Rattle.dbn_formula.proofs.Depends.{depends}
 use Rattle.dbn_formula.proofs.AnswersLaws.{in_answers, answers_in}
 use Rattle.dbn_formula.proofs.VariableLaws.{var_itself, type_itself, in_bound, bound_in, var_same}
-use Rattle.dbn_formula.proofs.Choices.{KeepsValues, type_of_bound}
 use Rattle.dbn_formula.proofs.RenameLaws.{renamed_holds}
 use Rattle.dbn_formula.proofs.RenameFree.{renamed_occurrences, renamed_constants}
 use Rattle.dbn_formula.proofs.RenameClear.{renamed_clear}
@@ -49,8 +45,7 @@ use Rattle.dbn_formula.proofs.TypesKept.{normal_types, renamed_types}
 use Rattle.dbn_formula.proofs.OrderOfParts.{Alike}
 use Rattle.dbn_formula.proofs.Arranged.{arranged_holds, arranged_types, arranged_distinct, arranged_free, arranged_constants, arranged_steady, alike_same, alike_then}
 use Rattle.dbn_formula.proofs.Bounded.{bounded}
-use Rattle.dbn_formula.proofs.Environments.{Found, Step}
-use Rattle.dbn_formula.proofs.Solved.{Sound, Solves, solved}
+use Rattle.dbn_formula.proofs.Solved.{Solves, solved}
 
 -- ---- the formula that is solved says the same
 

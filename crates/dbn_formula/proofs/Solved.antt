@@ -1,5 +1,5 @@
 -- The solutions of a formula that is safe from left to right are sound and complete for what holds.
-use Rattle.std.proofs.Common.{◌≡◌, ℕ, ◌⊎◌, inl, inr, ⊎_elim, Bool, true, false, cond, not, ◌&&◌, ◌||◌, List, [], ◌∷◌, ◌++◌, map, refl, ap, sym, ◌∙◌, subst, Some}
+use Rattle.std.proofs.Common.{◌≡◌, ℕ, inl, inr, ⊎_elim, true, false, cond, not, ◌&&◌, ◌||◌, List, [], ◌∷◌, ◌++◌, map, refl, ap, sym, ◌∙◌, subst, Some}
 use Rattle.std.specs.Prelude.{slice_index_or}
 use Rattle.std.specs.Ordering.{is_eq}
 use Rattle.std.specs.Cmp.{Equal-is, tied_itself}
@@ -16,17 +16,17 @@ use Rattle.dbn_value.specs.declared.term.Term.TheVariants as term
 use Rattle.dbn_value.specs.declared.term.Cmp.{Cmp}
 use Rattle.dbn_value.specs.declared.term.Cmp.TheVariants as cmp
 use Rattle.dbn_formula.specs.Variables.{TypedVars, is_in, binds}
-use Rattle.dbn_formula.specs.Holds.{Env, Domain, Instance, Agree, lookup, value_of, meets, row_eq, some_choice, holds_over}
-use Rattle.dbn_formula.specs.Free.{variable_of, unhidden, occurrences}
+use Rattle.dbn_formula.specs.Holds.{Env, Domain, Instance, lookup, value_of, meets, row_eq, holds_over}
+use Rattle.dbn_formula.specs.Free.{variable_of, occurrences}
 use Rattle.dbn_formula.specs.Answers.{constants}
 use Rattle.dbn_formula.specs.Typing.{Shapes, entered, types_fit}
 use Rattle.dbn_formula.specs.Distinct.{distinct_vars, distinct}
 use Rattle.dbn_formula.specs.Safe.{all_in, known, test_safe, in_turn, steady, as_level}
-use Rattle.dbn_formula.specs.Solve.{is_empty, is_bound, only_if, has_value, term_is, matched, tested, all_run, choosable, dropped, chosen, solutions_over}
+use Rattle.dbn_formula.specs.Solve.{is_empty, is_bound, only_if, has_value, term_is, matched, all_run, choosable, dropped, chosen, solutions_over}
 use Rattle.dbn_formula.specs.Ready.{IsValued, AreValued, RowsIn, ValuesIn, Covers, Ready}
 use Rattle.dbn_formula.specs.declared.formula.Formula.{Formula}
-use Rattle.dbn_formula.specs.declared.formula.Formula.TheVariants.{Atom, Test, And, Or, Not, Implies, Exists, Forall}
-use Rattle.dbn_formula.proofs.Induction.{Steps, induction}
+use Rattle.dbn_formula.specs.declared.formula.Formula.TheVariants.{Atom, Test, And, Or, Not, Exists}
+use Rattle.dbn_formula.proofs.Induction.{induction}
 use Rattle.dbn_formula.proofs.HoldsLaws.{holds_atom, holds_test, holds_and, holds_or, holds_not, holds_exists}
 use Rattle.dbn_formula.proofs.FreeLaws.{occurrences_atom, occurrences_test, occurrences_and, occurrences_or, occurrences_not, occurrences_exists}
 use Rattle.dbn_formula.proofs.ConstantsLaws.{constants_and, constants_or, constants_not, constants_exists}
@@ -35,10 +35,10 @@ use Rattle.dbn_formula.proofs.DistinctLaws.{distinct_and, distinct_or, distinct_
 use Rattle.dbn_formula.proofs.SafeLaws.{steady_test, steady_and, steady_or, steady_not, steady_implies, steady_exists, steady_forall}
 use Rattle.dbn_formula.proofs.SolveLaws.{solve_atom, solve_test, solve_and, solve_or, solve_not, solve_exists}
 use Rattle.dbn_formula.proofs.Depends.{depends}
-use Rattle.dbn_formula.proofs.VariableLaws.{in_of_is, is_of_in, in_bound, in_unhidden, unhidden_in}
-use Rattle.dbn_formula.proofs.Choices.{KeepsValues, Chosen, Choice, choice_out, choice_in, entered_own, entered_binds, valued_inside}
+use Rattle.dbn_formula.proofs.VariableLaws.{in_of_is, in_bound, in_unhidden, unhidden_in}
+use Rattle.dbn_formula.proofs.Choices.{KeepsValues, Choice, choice_out, choice_in, entered_own, entered_binds, valued_inside}
 use Rattle.dbn_formula.proofs.Bounded.{bounded, inner_scope, joined}
-use Rattle.dbn_formula.proofs.Environments.{Step, Given, Found, Matched, value_alike, in_only_if, only_if_in, keeps_itself, step_none, step_then, step_alike, value_kept, term_sound, term_complete, matched_sound, matched_complete, lookup_dropped, bound_dropped, dropped_bound}
+use Rattle.dbn_formula.proofs.Environments.{Step, Found, in_only_if, only_if_in, keeps_itself, step_none, step_then, step_alike, value_kept, term_sound, term_complete, matched_sound, matched_complete, lookup_dropped, bound_dropped, dropped_bound}
 
 empty_is : {A : Type 0} (xs : List A) → is_empty xs ≡ true → (x : A) → In x xs → ⊥
 empty_is [] e x at = at

@@ -1,11 +1,10 @@
 -- The normal form and renaming apart keep a formula well typed.
-use Rattle.std.proofs.Common.{◌≡◌, ℕ, ◌⊎◌, inl, inr, ⊎_elim, Bool, true, false, cond, not, ◌&&◌, List, [], ◌∷◌, ◌++◌, map, refl, ap, sym, ◌∙◌, subst, Option, Some, None}
+use Rattle.std.proofs.Common.{◌≡◌, ℕ, inl, Bool, true, false, cond, ◌&&◌, List, [], ◌∷◌, ◌++◌, map, refl, ap, sym, ◌∙◌, subst, Option, Some}
 use Rattle.std.specs.Prelude.{slice_index_or}
 use Rattle.std.specs.List.{list_all, flat_map, AllByRecursion}
 use Rattle.std.proofs.lemmas.List.Folds.{list_all-map}
 use Rattle.dbn_value.specs.Members.{In}
 use Rattle.dbn_value.proofs.MemberLaws.{append_left, append_right}
-use Rattle.dbn_value.specs.Order.{value_type}
 use Rattle.dbn_value.specs.declared.value.ColType.{ColType}
 use Rattle.dbn_value.specs.declared.term.Var.{Var}
 use Rattle.dbn_value.specs.declared.term.Term.{Term}
@@ -18,7 +17,7 @@ use Rattle.dbn_formula.specs.Normal.{denied_cmp, normal_at}
 use Rattle.dbn_formula.specs.Apart.{Renaming, marks, term_marks, quantified_marks, next_mark, renamed_var, renamed_term, marked, fresh, last_mark, opened, renamed_at, last_at, renamed_all, renamed}
 use Rattle.dbn_formula.specs.declared.formula.Formula.{Formula}
 use Rattle.dbn_formula.specs.declared.formula.Formula.TheVariants.{Atom, Test, And, Or, Not, Implies, Exists, Forall}
-use Rattle.dbn_formula.proofs.Induction.{Steps, induction}
+use Rattle.dbn_formula.proofs.Induction.{induction}
 use Rattle.dbn_formula.proofs.Truth.{all_alike, each_of}
 use Rattle.dbn_formula.proofs.VariableLaws.{var_itself}
 use Rattle.dbn_formula.proofs.TypingLaws.{types_atom, types_test, types_and, types_or, types_not, types_implies, types_exists, types_forall}

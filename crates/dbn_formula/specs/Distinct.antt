@@ -1,5 +1,5 @@
 -- Whether each quantifier of a formula names each of its variables once.
-use Rattle.std.specs.Prelude.{Bool, true, not, ◌&&◌, List, [], ◌∷◌}
+use Rattle.std.specs.Prelude.{Bool, true, not, ◌&&◌, [], ◌∷◌}
 use Rattle.std.specs.List.{list_all}
 use Rattle.dbn_formula.specs.Variables.{TypedVars, binds}
 use Rattle.dbn_formula.specs.declared.formula.Formula.{Formula}

@@ -1,5 +1,5 @@
 -- What a value of a variable is in a scope, and what an instance and a domain must be for solutions to be found.
-use Rattle.std.specs.Prelude.{◌≡◌, ℕ, Bool, true, List, [], ◌∷◌, Option, Some, slice_index_or}
+use Rattle.std.specs.Prelude.{◌≡◌, ℕ, true, List, [], ◌∷◌, Some, slice_index_or}
 use Rattle.dbn_value.specs.Members.{In}
 use Rattle.dbn_value.specs.Order.{value_type}
 use Rattle.dbn_value.specs.declared.value.Value.{Value}
@@ -11,7 +11,7 @@ use Rattle.dbn_formula.specs.Variables.{TypedVars, binds}
 use Rattle.dbn_formula.specs.Holds.{Env, Domain, Instance, lookup}
 use Rattle.dbn_formula.specs.Free.{occurrences}
 use Rattle.dbn_formula.specs.Answers.{constants}
-use Rattle.dbn_formula.specs.Typing.{Shapes, type_in, term_type, types_fit}
+use Rattle.dbn_formula.specs.Typing.{Shapes, term_type, types_fit}
 use Rattle.dbn_formula.specs.Distinct.{distinct}
 use Rattle.dbn_formula.specs.Safe.{steady}
 use Rattle.dbn_formula.specs.Solve.{is_bound}

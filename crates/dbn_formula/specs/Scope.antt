@@ -1,5 +1,4 @@
 -- The scope at a place of a formula as a list, from the given variables and the quantifiers around the place.
-use Rattle.std.specs.Prelude.{List}
 use Rattle.dbn_formula.specs.Variables.{TypedVars}
 use Rattle.dbn_formula.specs.Typing.{entered}
 use Rattle.dbn_formula.specs.declared.typing.Scope.{Scope}

@@ -1,5 +1,5 @@
 -- Which queries and sentences are accepted, and their solutions over an instance.
-use Rattle.std.specs.Prelude.{◌≡◌, ℕ, Bool, true, List, [], ◌∷◌, map, None, slice_index_or}
+use Rattle.std.specs.Prelude.{◌≡◌, ℕ, true, List, [], ◌∷◌, map, None, slice_index_or}
 use Rattle.dbn_value.specs.Members.{In}
 use Rattle.dbn_value.specs.Order.{value_type}
 use Rattle.dbn_value.specs.declared.value.Value.{Value}
@@ -16,7 +16,6 @@ use Rattle.dbn_formula.specs.Distinct.{distinct_vars}
 use Rattle.dbn_formula.specs.Safe.{arranged, query_safe, sentence_safe}
 use Rattle.dbn_formula.specs.Solve.{solutions_over}
 use Rattle.dbn_formula.specs.declared.formula.Formula.{Formula}
-use Rattle.dbn_formula.specs.declared.formula.Formula.TheVariants.{Not}
 
 -- the formula as it is solved: in normal form, renamed apart, with conjuncts in the order of the safety test
 abbrev pub solvable : Formula → Formula

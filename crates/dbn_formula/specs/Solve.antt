@@ -1,6 +1,6 @@
 -- The solutions of a formula that extend an environment, found from left to right: an atom by the rows of its relation, an
 -- equation by its known side. Each solution is an environment; the domain is asked for quantified variables that stay unbound.
-use Rattle.std.specs.Prelude.{◌≡◌, Bool, true, false, not, ◌||◌, cond, if◌then◌else◌, List, [], ◌∷◌, slice_index_or}
+use Rattle.std.specs.Prelude.{Bool, true, false, not, ◌||◌, if◌then◌else◌, List, [], ◌∷◌, slice_index_or}
 use Rattle.std.specs.Ordering.{eq_by_cmp}
 use Rattle.std.specs.List.{list_any, list_all, filter, flat_map}
 use Rattle.dbn_value.specs.Order.{value_cmp}

@@ -1,5 +1,5 @@
 -- Variables and types: when two are the same, and lists of variables.
-use Rattle.std.specs.Prelude.{if◌then◌else◌, ◌++◌, Bool, true, false, not, ◌&&◌, ◌==◌, List, [], ◌∷◌}
+use Rattle.std.specs.Prelude.{if◌then◌else◌, ◌++◌, Bool, true, false, not, List, [], ◌∷◌}
 use Rattle.std.specs.List.{list_any, filter}
 pub use Rattle.dbn_value.specs.Variables.{var_eq}
 use Rattle.dbn_value.specs.declared.term.Var.{Var}
