@@ -32,7 +32,6 @@ pub mod SolutionLaws
 pub mod SolveLaws
 pub mod Solved
 pub mod Truth
-pub mod Tests
 pub mod Turns
 pub mod TypesKept
 pub mod TypeFaults
