@@ -1,13 +1,14 @@
--- One turn of the safety test of a conjunction.
-use Rattle.std.proofs.Common.{◌≡◌, ℕ, zero, suc, ◌+◌, ◌<◌, ◌≤◌, Bool, true, false, cond, List, [], ◌∷◌, ◌++◌, refl, ap, sym, ◌∙◌, subst, eqb-true, Option, Some, None, length, arith, nat_eq, get_or, remove, slice_get, sum_by}
+-- One turn of the safety test of a conjunction, and of putting it in order.
+use Rattle.std.proofs.Common.{◌≡◌, ℕ, zero, suc, ◌+◌, ◌<◌, ◌≤◌, Bool, true, false, cond, List, [], ◌∷◌, ◌++◌, refl, ap, sym, ◌∙◌, subst, eqb-true, Option, Some, None, length, arith, nat_eq, get_or, remove, slice_get, sum_by, map, append_assoc}
 use Rattle.std.specs.Option.{option_map, option_map_or}
-use Rattle.std.proofs.lemmas.List.Sums.{sum_by-remove}
+use Rattle.std.proofs.lemmas.Option.{get_or_from_slice_get}
+use Rattle.std.proofs.lemmas.List.Sums.{sum_by-remove, get_or-le-sum_by}
 use Rattle.std.proofs.lemmas.List.Edits.{length-remove}
 use Rattle.dbn_formula.proofs.Weights.{weight}
 use Rattle.dbn_value.specs.declared.term.Var.{Var}
 use Rattle.dbn_formula.specs.Free.{occurrences}
-use Rattle.dbn_formula.specs.Safe.{safe}
-use Rattle.dbn_formula.specs.Conjuncts.{first_safe, taken, safe_position}
+use Rattle.dbn_formula.specs.Safe.{safe, arranged}
+use Rattle.dbn_formula.specs.Conjuncts.{first_safe, taken, order, safe_position}
 use Rattle.dbn_formula.specs.declared.formula.Formula.{Formula}
 
 one_more : (n : ℕ) → n + 1 ≡ suc n
@@ -97,3 +98,38 @@ fewer (f ∷ fs) i h =
     omega (arith, a, b)
 
 pub ruleset turn_laws = (turn_at, turn_none, fewer)
+
+-- ---- the same of the order
+
+order_taken : (fs : List Formula) (bound : List Var) (g : Formula) (gs : List Formula) → first_safe fs bound ≡ Some (g, gs) → length gs + 1 ≡ length fs
+    → order (length fs) fs bound ≡ arranged g bound ∷ order (length gs) gs (bound ++ occurrences g)
+order_taken [] bound g gs e n = cc
+order_taken (f ∷ fs) bound g gs e n =
+    ap (λ (o : Option (Formula × List Formula)). option_map_or (λ (h : Formula × List Formula). arranged h.0 bound ∷ order (length fs) h.1 (bound ++ occurrences h.0)) o (map (λ h. arranged h bound) (f ∷ fs))) e
+    ∙ ap (λ (k : ℕ). arranged g bound ∷ order k gs (bound ++ occurrences g)) (omega (arith, n))
+
+-- the part at the first safe position comes next
+pub order_turn : (out fs : List Formula) (bound : List Var) (i : ℕ) (g : Formula) → i ≡ safe_position fs bound → i < length fs → slice_get fs i ≡ Some g
+    → (out ++ arranged g bound ∷ []) ++ order (length (remove fs i)) (remove fs i) (bound ++ occurrences g) ≡ out ++ order (length fs) fs bound
+order_turn out fs bound i g e h at =
+    append_assoc out (arranged g bound ∷ []) (order (length (remove fs i)) (remove fs i) (bound ++ occurrences g))
+    ∙ ap (λ gs. out ++ gs) (sym (order_taken fs bound g (remove fs i)
+    (first_there fs bound g (ap (slice_get fs) (sym e) ∙ at) ∙ ap (λ (k : ℕ). Some (g, remove fs k)) (sym e))
+    (length-remove fs i h)))
+
+order_left : (fs : List Formula) (bound : List Var) → safe_position fs bound ≡ length fs → map (λ g. arranged g bound) fs ≡ order (length fs) fs bound
+order_left [] bound e = refl
+order_left (f ∷ fs) bound e =
+    sym (ap (λ (o : Option (Formula × List Formula)). option_map_or (λ (h : Formula × List Formula). arranged h.0 bound ∷ order (length fs) h.1 (bound ++ occurrences h.0)) o (map (λ h. arranged h bound) (f ∷ fs))) (none_there (f ∷ fs) bound e))
+
+-- where none is safe, all follow
+pub order_end : (fs : List Formula) (bound : List Var) → length fs ≤ safe_position fs bound → map (λ g. arranged g bound) fs ≡ order (length fs) fs bound
+order_end fs bound h = order_left fs bound (ends fs bound (safe_position fs bound) refl h)
+
+pub lighter : (fs : List Formula) (i : ℕ) (g : Formula) → slice_get fs i ≡ Some g → i < length fs → weight g < sum_by weight fs + length fs + 3
+lighter fs i g at h =
+    let a : weight (get_or fs i g) ≤ sum_by weight fs = get_or-le-sum_by weight fs i g h in
+    let b : weight (get_or fs i g) ≡ weight g = ap weight (get_or_from_slice_get fs i g g at) in
+    omega (arith, a, b)
+
+pub ruleset order_laws = (order_turn, fewer, lighter)

@@ -2,6 +2,7 @@
 #![tactic(auto)]
 
 mod apart;
+mod arranging;
 mod copying;
 mod formula;
 mod laws;
@@ -14,6 +15,7 @@ mod typing;
 mod variables;
 
 pub use apart::rename_apart;
+pub use arranging::arrange;
 pub use formula::{Formula, Formulas};
 pub use laws::{
     answers_are_a_set, free_variables_decide, normal_again, normal_is_small, normal_keeps,

@@ -96,13 +96,15 @@ fn denied(cmp: Cmp) -> Cmp
     }
 }
 
-fn denial(alloc: Global, f: Formula) -> Result<Formula, AllocError>
+/// The negation of the formula.
+pub(crate) fn denial(alloc: Global, f: Formula) -> Result<Formula, AllocError>
     ensures { IfOk result (λ g. g ≡ Formula.Not f) }
 {
     Ok(Formula::Not(Boxed::new(alloc, f)?))
 }
 
-fn choice(alloc: Global, vars: &TypedVars, body: Formula) -> Result<Formula, AllocError>
+/// The formula under `Exists` over these variables.
+pub(crate) fn choice(alloc: Global, vars: &TypedVars, body: Formula) -> Result<Formula, AllocError>
     ensures { IfOk result (λ g. g ≡ Formula.Exists vars.now body) }
 {
     let vars = vars.copy_in(alloc)?;

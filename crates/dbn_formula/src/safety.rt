@@ -90,7 +90,11 @@ fn all_taken(alloc: Global, rest: &mut Formulas, bound: &mut Vars) -> Result<boo
 
 /// The position of the first part that is safe, or the length where there is none.
 #[cycle(safe)]
-fn safe_position(alloc: Global, parts: &[Formula], bound: &[Var]) -> Result<usize, AllocError>
+pub(crate) fn safe_position(
+    alloc: Global,
+    parts: &[Formula],
+    bound: &[Var],
+) -> Result<usize, AllocError>
     ensures { IfOk result (λ at. at ≡ safe_position parts.now bound.now) }
 {
     let mut at = 0;
@@ -167,7 +171,11 @@ fn all_occurrences(alloc: Global, parts: &[Formula]) -> Result<Vars, AllocError>
 }
 
 /// The bound variables that a quantifier doesn't hide.
-fn outside(alloc: Global, vars: &[(Var, ColType)], bound: &[Var]) -> Result<Vars, AllocError>
+pub(crate) fn outside(
+    alloc: Global,
+    vars: &[(Var, ColType)],
+    bound: &[Var],
+) -> Result<Vars, AllocError>
     ensures { IfOk result (λ kept. kept ≡ unhidden vars.now bound.now) }
 {
     let mut kept = Items::new(alloc);

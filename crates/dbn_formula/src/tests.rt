@@ -1,6 +1,7 @@
-use super::{Formula, Formulas, TypeFault, free, normal, type_check};
+use super::{Formula, Formulas, TypeFault, arrange, free, normal, rename_apart, safe, type_check};
 use dbn_value::{
-    Cmp, ColType, CopyIn, IdNo, Name, Shape, Shapes, Term, Terms, TypedVars, Value, ValueFault, Var,
+    Cmp, ColType, CopyIn, IdNo, Name, Shape, Shapes, Term, Terms, TypedVars, Value, ValueFault,
+    Var, Vars,
 };
 use sqlite_items::{Boxed, Items};
 use std::alloc::{AllocError, Global};
@@ -21,6 +22,24 @@ fn atom(alloc: Global, rel: usize, first: &[u8], second: &[u8]) -> Result<Formul
     terms.push(term(alloc, first)?)?;
     terms.push(term(alloc, second)?)?;
     Ok(Formula::Atom { rel, terms })
+}
+
+/// The relation over one variable.
+fn single(alloc: Global, rel: usize, name: &[u8]) -> Result<Formula, ValueFault> {
+    let mut terms: Terms = Items::new(alloc);
+    terms.push(term(alloc, name)?)?;
+    Ok(Formula::Atom { rel, terms })
+}
+
+fn exists(alloc: Global, name: &[u8], body: Formula) -> Result<Formula, ValueFault> {
+    Ok(Formula::Exists {
+        vars: typed(alloc, name, ColType::Id)?,
+        body: Boxed::new(alloc, body)?,
+    })
+}
+
+fn denial(alloc: Global, f: Formula) -> Result<Formula, AllocError> {
+    Ok(Formula::Not(Boxed::new(alloc, f)?))
 }
 
 fn pair(alloc: Global, first: Formula, second: Formula) -> Result<Formulas, AllocError> {
@@ -91,6 +110,24 @@ fn kinds(alloc: Global, f: &Formula) -> Result<Vec<u8>, AllocError> {
     Ok(out)
 }
 
+/// The mark of the only variable of an `Exists`.
+fn quantified_mark(f: &Formula) -> u64 {
+    match f {
+        Formula::Exists { vars, body: _ } => match vars.as_slice() {
+            [var] => var.0.mark,
+            _ => 0,
+        },
+        _ => 0,
+    }
+}
+
+fn is_atom(f: &Formula) -> bool {
+    match f {
+        Formula::Atom { .. } => true,
+        _ => false,
+    }
+}
+
 #[test]
 fn hidden_variables_are_not_free(rt: HostRuntime) -> Result<(), ValueFault> {
     let alloc = rt.alloc();
@@ -145,6 +182,56 @@ fn the_first_kind_of_fault_is_told(rt: HostRuntime) -> Result<(), ValueFault> {
             assert!(rt; type_check(alloc, &value, &scope, &rels) == Ok(()));
         }
         None => assert!(rt; false),
+    }
+    Ok(())
+}
+
+#[test]
+fn quantified_variables_get_marks_in_reading_order(rt: HostRuntime) -> Result<(), ValueFault> {
+    let alloc = rt.alloc();
+    let first = exists(alloc, b"x", single(alloc, 0, b"x")?)?;
+    let second = first.copy_in(alloc)?;
+    let both = Formula::And(pair(alloc, first, second)?);
+    let made = rename_apart(alloc, &both)?;
+    match &made {
+        Formula::And(parts) => match parts.as_slice() {
+            [first, second] => {
+                assert!(rt; quantified_mark(first) == 1);
+                assert!(rt; quantified_mark(second) == 2);
+            }
+            _ => assert!(rt; false),
+        },
+        _ => assert!(rt; false),
+    }
+    Ok(())
+}
+
+#[test]
+fn a_negation_gives_no_values(rt: HostRuntime) -> Result<(), ValueFault> {
+    let alloc = rt.alloc();
+    let bound: Vars = Items::new(alloc);
+    let some = exists(alloc, b"x", denial(alloc, single(alloc, 0, b"x")?)?)?;
+    assert!(rt; safe(alloc, &some, &bound) == Ok(false));
+    Ok(())
+}
+
+#[test]
+fn a_negation_comes_behind_what_binds_its_variables(rt: HostRuntime) -> Result<(), ValueFault> {
+    let alloc = rt.alloc();
+    let bound: Vars = Items::new(alloc);
+    let denied = denial(alloc, exists(alloc, b"y", atom(alloc, 1, b"x", b"y")?)?)?;
+    let both = Formula::And(pair(alloc, denied, single(alloc, 0, b"x")?)?);
+    assert!(rt; safe(alloc, &both, &bound) == Ok(true));
+    let made = arrange(alloc, &both, &bound)?;
+    match &made {
+        Formula::And(parts) => match parts.as_slice() {
+            [first, second] => {
+                assert!(rt; is_atom(first));
+                assert!(rt; !is_atom(second));
+            }
+            _ => assert!(rt; false),
+        },
+        _ => assert!(rt; false),
     }
     Ok(())
 }
