@@ -79,7 +79,15 @@ fn is_name(bytes: &[u8]) -> bool
 }
 
 impl Name {
-    /// The name of these bytes. `Spelling` comes exactly where they are no name.
+    /// The name of these bytes, which takes no memory.
+    pub fn from_vec(bytes: Vec<u8>) -> Name
+        requires { IsName bytes.items }
+        ensures { result ≡ bytes.items }
+    {
+        Name { bytes }
+    }
+
+    /// The name of these bytes. `Spelling` comes exactly where they are no name, `Memory` where memory was refused.
     pub fn from_bytes(alloc: Global, bytes: &[u8]) -> Result<Name, ValueFault>
         ensures ok { IfOk result (λ name. name ≡ bytes.now) }
         ensures spelling { IsErrOf result ValueFault.Spelling ↔ IsFalse (is_name bytes.now) }
@@ -87,8 +95,7 @@ impl Name {
         if !is_name(bytes) {
             return Err(ValueFault::Spelling);
         }
-        let bytes = Vec::from_slice(alloc, bytes)?;
-        Ok(Name { bytes })
+        Ok(Name::from_vec(Vec::from_slice(alloc, bytes)?))
     }
 
     /// Whether the two names are equal.

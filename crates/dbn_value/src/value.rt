@@ -58,7 +58,7 @@ impl Model for Txt {
 }
 
 impl Txt {
-    /// The text of these bytes. `Spelling` comes exactly where they are no text.
+    /// The text of these bytes. `Spelling` comes exactly where they are no text, `Memory` where memory was refused.
     pub fn from_bytes(alloc: Global, bytes: &[u8]) -> Result<Txt, ValueFault>
         ensures ok { IfOk result (λ text. text ≡ bytes.now) }
         ensures spelling { IsErrOf result ValueFault.Spelling ↔ IsFalse (is_text bytes.now) }
@@ -71,7 +71,7 @@ impl Txt {
     }
 
     /// The text of these bytes, which takes no memory, and `None` exactly where they are no text.
-    pub fn from_vec(bytes: Vec<u8>) -> Option<Txt>
+    pub(crate) fn from_vec(bytes: Vec<u8>) -> Option<Txt>
         ensures { result ≡ (if is_text bytes.items then Some bytes.items else None) }
     {
         if is_text(bytes.as_slice()) {
