@@ -13,6 +13,10 @@ use Rattle.dbn_top.specs.declared.status.Status.TheVariants as status
 abbrev pub IsRead : Option (List ℕ) → Option (List ℕ) → ℕ → List ℕ → Type 0
 IsRead old new most bytes = Consumes old new bytes × IsAtEnd new × (length bytes ≤ most)
 
+-- all bytes of the net were read, and they are the text of a net
+abbrev pub IsAccepted : Option (List ℕ) → Option (List ℕ) → ℕ → Type 0
+IsAccepted old new most = (bytes : List ℕ) × (accepted : Net) × IsRead old new most bytes × Reads bytes accepted
+
 -- a source had more than `most` bytes, of which one more than that were taken
 abbrev pub IsOver : Option (List ℕ) → Option (List ℕ) → ℕ → Type 0
 IsOver old new most = (front : List ℕ) × Consumes old new front × (length front ≡ most + 1)
@@ -47,6 +51,20 @@ pub record Try : Type 0 where
 abbrev pub WritesFront : Try → Type 0
 WritesFront try = (text : List ℕ) → IsDue try.net.bytes try.commands.bytes text → AppendsFront try.out.bytes try.out.bytes_after text
 
+-- the net was read whole, and it is the text of no net
+abbrev pub NetIsRefused : Try → Type 0
+NetIsRefused try = (bytes : List ℕ) × IsRead try.net.bytes try.net.bytes_after try.net_bytes bytes × ReadsNone bytes
+
+-- the net was read whole, and it is accepted
+abbrev pub NetIsAccepted : Try → Type 0
+NetIsAccepted try = IsAccepted try.net.bytes try.net.bytes_after try.net_bytes
+
+-- all that comes before the first reply was read: a net that is refused, or an accepted net and all commands
+abbrev pub AllIsRead : Try → Type 0
+AllIsRead try =
+    NetIsRefused try
+    ⊎ (NetIsAccepted try × ((typed : List ℕ) × IsRead try.commands.bytes try.commands.bytes_after try.input_bytes typed))
+
 abbrev pub IsAnswered : Try → Type 0
 IsAnswered try =
     (bytes typed : List ℕ) × (accepted : Net)
@@ -54,23 +72,21 @@ IsAnswered try =
     × IsRead try.commands.bytes try.commands.bytes_after try.input_bytes typed
     × Appends try.out.bytes try.out.bytes_after (run_text accepted typed)
 
-abbrev pub IsRefused : Try → Type 0
-IsRefused try =
-    (bytes : List ℕ) × IsRead try.net.bytes try.net.bytes_after try.net_bytes bytes × ReadsNone bytes
-    × IsUntouched try.commands × Appends try.out.bytes try.out.bytes_after refused_line
-
 abbrev pub IsPastLimit : Try → Type 0
 IsPastLimit try =
     IsOver try.net.bytes try.net.bytes_after try.net_bytes
-    ⊎ IsOver try.commands.bytes try.commands.bytes_after try.input_bytes
+    ⊎ (IsOver try.commands.bytes try.commands.bytes_after try.input_bytes × NetIsAccepted try)
+
+abbrev pub CouldNotRead : Try → Type 0
+CouldNotRead try = HasFault try.net ⊎ (HasFault try.commands × NetIsAccepted try)
 
 abbrev pub TryEnds : Status → Try → Type 0
 TryEnds status.Done try = IsAnswered try
 TryEnds status.Usage try = ⊥
-TryEnds status.Net try = IsRefused try
+TryEnds status.Net try = NetIsRefused try × Appends try.out.bytes try.out.bytes_after refused_line
 TryEnds status.Store try = ⊥
-TryEnds status.ReadFault try = (HasFault try.net ⊎ HasFault try.commands) × IsUntouched try.out
-TryEnds status.WriteFault try = HasFault try.out × WritesFront try
+TryEnds status.ReadFault try = CouldNotRead try × IsUntouched try.out
+TryEnds status.WriteFault try = HasFault try.out × AllIsRead try × WritesFront try
 TryEnds status.DiskFault try = ⊥
 TryEnds status.InputLimit try = IsPastLimit try × IsUntouched try.out
 TryEnds status.Memory try = WritesFront try

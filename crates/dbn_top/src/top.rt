@@ -1,12 +1,12 @@
 //! The top call.
 
-ghost use Rattle.std.specs.Prelude.{◌≡◌, ◌≢◌, ◌≤◌, ◌⊎◌, ◌↔◌, IsTrue, List, Some, ℕ, length};
+ghost use Rattle.std.specs.Prelude.{◌≡◌, ◌≢◌, ◌<◌, ◌≤◌, ◌⊎◌, ◌↔◌, IsTrue, List, Some, ℕ, length};
 ghost use Rattle.std.specs.Io.KnownBytes.{Appends};
 ghost use Rattle.dbn_model.specs.Causes.{Rose};
 ghost use Rattle.dbn_model.specs.Commands.{run_text};
 ghost use Rattle.dbn_model.specs.Content.{AppendsFront, SameTold};
 ghost use Rattle.dbn_model.specs.Nets as nets;
-ghost use Rattle.dbn_top.specs.Endings.{IsDue, IsOver, IsRead, TryEnds};
+ghost use Rattle.dbn_top.specs.Endings.{IsAccepted, IsDue, IsOver, IsRead, TryEnds};
 ghost use Rattle.dbn_top.specs.Words.{IsTry, refused_line, usage_line};
 
 use crate::read_net::read_net;
@@ -58,11 +58,13 @@ pub fn dbnet<N: Source, C: Source, K: Sink, D: Disk>(
         × IsRead (N.left net.old) (N.left net.new) limits.now.net_bytes bytes × nets.ReadsNone bytes
         × Appends (K.taken out.old) (K.taken out.new) refused_line) }
     ensures read_fault { result.status ≡ Status.ReadFault → IsTry words.now × (K.taken out.new ≡ K.taken out.old)
-        × (Rose (N.faults net.old) (N.faults net.new) ⊎ Rose (C.faults commands.old) (C.faults commands.new)) }
+        × (Rose (N.faults net.old) (N.faults net.new)
+        ⊎ (Rose (C.faults commands.old) (C.faults commands.new) × IsAccepted (N.left net.old) (N.left net.new) limits.now.net_bytes)) }
     ensures write_fault { result.status ≡ Status.WriteFault → Rose (K.faults out.old) (K.faults out.new) }
     ensures input_limit { result.status ≡ Status.InputLimit → IsTry words.now × (K.taken out.new ≡ K.taken out.old)
         × (IsOver (N.left net.old) (N.left net.new) limits.now.net_bytes
-        ⊎ IsOver (C.left commands.old) (C.left commands.new) limits.now.input_bytes) }
+        ⊎ (IsOver (C.left commands.old) (C.left commands.new) limits.now.input_bytes
+        × IsAccepted (N.left net.old) (N.left net.new) limits.now.net_bytes)) }
     ensures front { (result.status ≡ Status.WriteFault) ⊎ (result.status ≡ Status.Memory) → IsTry words.now
         → (text : List ℕ) → IsDue (N.left net.old) (C.left commands.old) text → AppendsFront (K.taken out.old) (K.taken out.new) text }
     ensures usage_front { ¬ IsTry words.now → AppendsFront (K.taken out.old) (K.taken out.new) usage_line }
@@ -71,6 +73,18 @@ pub fn dbnet<N: Source, C: Source, K: Sink, D: Disk>(
         → N.left net.old ≡ Some bytes → C.left commands.old ≡ Some typed → nets.Reads bytes accepted
         → length bytes ≤ limits.now.net_bytes → length typed ≤ limits.now.input_bytes
         → (result.status ≡ Status.Done) ⊎ (result.status ≡ Status.Memory) }
+    ensures refused { IsTry words.now → ¬ Rose (N.faults net.old) (N.faults net.new) → ¬ Rose (K.faults out.old) (K.faults out.new)
+        → (bytes : List ℕ) → N.left net.old ≡ Some bytes → nets.ReadsNone bytes → length bytes ≤ limits.now.net_bytes
+        → (result.status ≡ Status.Net) ⊎ (result.status ≡ Status.Memory) }
+    ensures net_over { IsTry words.now → ¬ Rose (N.faults net.old) (N.faults net.new)
+        → (bytes : List ℕ) → N.left net.old ≡ Some bytes → limits.now.net_bytes < length bytes
+        → (result.status ≡ Status.InputLimit) ⊎ (result.status ≡ Status.Memory) }
+    ensures commands_over { IsTry words.now → ¬ Rose (N.faults net.old) (N.faults net.new) → ¬ Rose (C.faults commands.old) (C.faults commands.new)
+        → (bytes typed : List ℕ) (accepted : nets.Net) → N.left net.old ≡ Some bytes → C.left commands.old ≡ Some typed → nets.Reads bytes accepted
+        → length bytes ≤ limits.now.net_bytes → limits.now.input_bytes < length typed
+        → (result.status ≡ Status.InputLimit) ⊎ (result.status ≡ Status.Memory) }
+    ensures order { ((C.left commands.new ≡ C.left commands.old) × (C.faults commands.new ≡ C.faults commands.old))
+        ⊎ IsAccepted (N.left net.old) (N.left net.new) limits.now.net_bytes }
     ensures never { (result.status ≢ Status.Store) × (result.status ≢ Status.DiskFault) }
     ensures disks { (result.a ≡ a) × (result.b ≡ b) }
     ensures told { SameTold (N.left net.old) (N.left net.new) × SameTold (C.left commands.old) (C.left commands.new)
@@ -127,6 +141,8 @@ fn run_try<N: Source, C: Source, K: Sink>(
       input_bytes = limits.now.input_bytes;
       out = record { bytes = K.taken out.old; bytes_after = K.taken out.new; faults = K.faults out.old; faults_after = K.faults out.new };
     }) }
+    ensures order { ((C.left commands.new ≡ C.left commands.old) × (C.faults commands.new ≡ C.faults commands.old))
+        ⊎ IsAccepted (N.left net.old) (N.left net.new) limits.now.net_bytes }
     ensures told { SameTold (N.left net.old) (N.left net.new) × SameTold (C.left commands.old) (C.left commands.new)
         × SameTold (K.taken out.old) (K.taken out.new) }
     ensures later { (N.faults net.old ≤ N.faults net.new) × (C.faults commands.old ≤ C.faults commands.new)
