@@ -11,7 +11,7 @@ use Rattle.dbn_io.specs.LineSoFar.{Holds, Moved}
 use Rattle.dbn_io.specs.declared.lines.Line.{Line}
 use Rattle.dbn_io.specs.declared.take.ReadStop.{ReadStop}
 use Rattle.dbn_io.specs.declared.take.ReadStop.TheVariants.{Failed, Over, Memory}
-use Rattle.dbn_io.proofs.LineLaws.{lines-first}
+use Rattle.dbn_model.proofs.LineLaws.{lines-first}
 
 -- the first of the bytes that are held come first
 part-first : (held part rest : List ℕ) (left : Option (List ℕ)) → held ≡ part ++ rest → Consumes (prepend_known held left) (prepend_known rest left) part

@@ -1,8 +1,12 @@
 -- Laws of lines: the first line of a text, and the lines of the rest.
-use Rattle.std.proofs.Common.{◌≡◌, ℕ, ◌+◌, ◌<◌, ◌≤◌, Bool, true, false, List, [], ◌∷◌, ◌++◌, length, take, drop, cond, Some, None, refl, sym, ap, ◌∙◌, arith, map}
+use Rattle.std.proofs.Common.{◌≡◌, ℕ, suc, ◌+◌, ◌<◌, ◌≤◌, Bool, true, false, List, [], ◌∷◌, ◌++◌, length, get_or, take, drop, cond, Some, None, refl, sym, ap, subst, ◌∙◌, arith, map}
 use Rattle.std.specs.Prelude.{position, ◌==◌, nat_lt, ◌≢◌}
-use Rattle.std.specs.List.{slice_split, position_or_len}
-use Rattle.std.proofs.lemmas.List.Splits.{slice_split_first, slice_split_none, length-slice_split}
+use Rattle.std.specs.List.{All, slice_split}
+use Rattle.std.proofs.lemmas.List.Splits.{slice_split_at, slice_split_none, length-slice_split}
+use Rattle.std.proofs.lemmas.List.{get_or-take, length-take}
+use Rattle.std.proofs.lemmas.List.Elements.{All-from_get_or}
+use Rattle.std.proofs.lemmas.List.Quantifiers.{position-Some}
+use Rattle.std.proofs.Math.Seq.{split_at}
 use Rattle.std.proofs.lemmas.List.Sums.{fails_before_first}
 use Rattle.std.proofs.lemmas.Grind.{common_steps}
 use Rattle.std.proofs.lemmas.Bool.Decides.{nat_tests}
@@ -14,25 +18,17 @@ kept part [] some = absurd (omega arith)
 kept [] (next ∷ parts) some = refl
 kept (byte ∷ part) (next ∷ parts) some = refl
 
--- the line before the first line feed, and then the lines of what stands after it
-pub lines-first : (bytes : List ℕ) (end : ℕ) → position (λ byte. byte == 10) bytes ≡ Some end → lines bytes ≡ line_of (take end bytes) ∷ lines (drop (end + 1) bytes)
-lines-first bytes end found =
-    let at : position_or_len (λ byte. byte == 10) bytes ≡ end = grind (arith, common_steps) in
-    let inside : position_or_len (λ byte. byte == 10) bytes < length bytes = grind (arith, common_steps) in
-    let rest = drop (position_or_len (λ byte. byte == 10) bytes + 1) bytes in
-    let parts = slice_split_first (λ byte. byte == 10) bytes 0 inside in
+-- the line before a line feed, in which none stands, and then the lines of what stands after it
+pub lines-first : (raw rest : List ℕ) → All (λ byte. (byte == 10) ≡ false) raw → lines (raw ++ 10 ∷ rest) ≡ line_of raw ∷ lines rest
+lines-first raw rest unbroken =
     let some : 0 < length (slice_split (λ byte. byte == 10) rest) = omega (arith, length-slice_split (λ byte. byte == 10) rest) in
-    ap (λ l. map line_of (without_empty_end l)) parts
-    ∙ ap (map line_of) (kept (take (position_or_len (λ byte. byte == 10) bytes) bytes) (slice_split (λ byte. byte == 10) rest) some)
-    ∙ ap (λ n. line_of (take n bytes) ∷ lines (drop (n + 1) bytes)) at
+    ap (λ l. map line_of (without_empty_end l)) (slice_split_at (λ byte. byte == 10) raw 10 rest unbroken refl)
+    ∙ ap (map line_of) (kept raw (slice_split (λ byte. byte == 10) rest) some)
 
 -- a text without a line feed is its one line
-pub lines-last : (bytes : List ℕ) → position (λ byte. byte == 10) bytes ≡ None → 0 < length bytes → lines bytes ≡ line_of bytes ∷ []
-lines-last [] none some = absurd (omega arith)
-lines-last (byte ∷ bytes) none some = ap (λ l. map line_of (without_empty_end l)) (slice_split_none (λ b. b == 10) (byte ∷ bytes) (λ k e inside. fails_before_first (λ b. b == 10) (byte ∷ bytes) k e (end_at (byte ∷ bytes) none k inside)))
-  where
-    end_at : (xs : List ℕ) → position (λ b. b == 10) xs ≡ None → (k : ℕ) → k < length xs → k < position_or_len (λ b. b == 10) xs
-    end_at xs none k inside = grind (arith, common_steps)
+pub lines-only : (raw : List ℕ) → All (λ byte. (byte == 10) ≡ false) raw → 0 < length raw → lines raw ≡ line_of raw ∷ []
+lines-only [] unbroken some = absurd (omega arith)
+lines-only (byte ∷ bytes) unbroken some = ap (λ l. map line_of (without_empty_end l)) (slice_split_none (λ b. b == 10) (byte ∷ bytes) unbroken)
 
 -- one carriage return is dropped where it stands last
 pub without_return-last : (front : List ℕ) (last : ℕ) → without_return (front ++ last ∷ []) ≡ cond (last == 13) front (front ++ last ∷ [])
@@ -63,12 +59,32 @@ line_of-plain raw front last short split other =
     let whole : without_return raw ≡ raw = ap without_return split ∙ without_return-last front last ∙ ap (λ b. cond b front (front ++ last ∷ [])) is ∙ sym split in
     sym (ap (λ b. cond b Long (Text (without_return raw))) test ∙ ap Text whole)
 
+-- a text in which no line feed is found has none
+unbroken-none : (bytes : List ℕ) → position (λ byte. byte == 10) bytes ≡ None → All (λ byte. (byte == 10) ≡ false) bytes
+unbroken-none bytes none k e inside = fails_before_first (λ byte. byte == 10) bytes k e (grind (arith, common_steps))
+
 -- the first line of a text without a line feed, and the lines of the rest, of which there are none
 pub first-whole : (bytes rest : List ℕ) (line : Line) → position (λ byte. byte == 10) bytes ≡ None → 0 < length bytes → length rest ≡ 0 → line ≡ line_of bytes → lines bytes ≡ line ∷ lines rest
-first-whole bytes [] line none some empty is = lines-last bytes none some ∙ ap (λ l. l ∷ []) (sym is)
+first-whole bytes [] line none some empty is = lines-only bytes (unbroken-none bytes none) some ∙ ap (λ l. l ∷ []) (sym is)
 first-whole bytes (byte ∷ rest) line none some empty is = absurd (omega arith)
+
+-- no line feed stands before the one that is found first
+unbroken-before : (bytes : List ℕ) (end : ℕ) → position (λ byte. byte == 10) bytes ≡ Some end → All (λ byte. (byte == 10) ≡ false) (take end bytes)
+unbroken-before bytes end found =
+    let at = position-Some (λ byte. byte == 10) bytes end 0 found in
+    All-from_get_or (λ byte. (byte == 10) ≡ false) (take end bytes) 0
+    (λ i inside. let below : i < end = omega (arith, inside, length-take end bytes) in subst (λ byte. (byte == 10) ≡ false) (sym (get_or-take end bytes i 0 below)) (at.2 i below))
+
+-- a text around the line feed that is found first
+around : (bytes : List ℕ) (end : ℕ) → position (λ byte. byte == 10) bytes ≡ Some end → bytes ≡ take end bytes ++ 10 ∷ drop (end + 1) bytes
+around bytes end found =
+    let at = position-Some (λ byte. byte == 10) bytes end 0 found in
+    let feed : get_or bytes end 0 ≡ 10 = grind (arith, nat_tests, at.1) in
+    let next : suc end ≡ end + 1 = omega arith in
+    split_at bytes end 0 at.0 ∙ ap (λ byte. take end bytes ++ byte ∷ drop (suc end) bytes) feed ∙ ap (λ n. take end bytes ++ 10 ∷ drop n bytes) next
 
 -- the first line of a text, and the lines of what stands after its line feed
 pub first-split : (bytes front rest : List ℕ) (end : ℕ) (line : Line) → position (λ byte. byte == 10) bytes ≡ Some end → front ≡ take end bytes → rest ≡ drop (end + 1) bytes → line ≡ line_of front → lines bytes ≡ line ∷ lines rest
 first-split bytes front rest end line found is_front is_rest is =
-    lines-first bytes end found ∙ ap (λ l. line_of l ∷ lines (drop (end + 1) bytes)) (sym is_front) ∙ ap (λ l. line_of front ∷ lines l) (sym is_rest) ∙ ap (λ l. l ∷ lines rest) (sym is)
+    ap lines (around bytes end found) ∙ lines-first (take end bytes) (drop (end + 1) bytes) (unbroken-before bytes end found)
+    ∙ ap (λ l. line_of l ∷ lines (drop (end + 1) bytes)) (sym is_front) ∙ ap (λ l. line_of front ∷ lines l) (sym is_rest) ∙ ap (λ l. l ∷ lines rest) (sym is)

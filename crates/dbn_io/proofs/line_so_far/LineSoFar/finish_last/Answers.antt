@@ -1,5 +1,5 @@
 use Rattle.std.proofs.Common.{◌<◌, length, sym, ◌∙◌}
-use Rattle.dbn_io.proofs.LineLaws.{lines-only}
+use Rattle.dbn_model.proofs.LineLaws.{lines-only}
 use Rattle.dbn_io.proofs.line_so_far.LineSoFar.finish_last.Goals as goal
 
 pub returns : goal.returns
