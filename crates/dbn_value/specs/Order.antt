@@ -1,5 +1,5 @@
 -- The order of values and of rows, the type of a value and the number of an int.
-use Rattle.std.specs.Prelude.{◌≡◌, ℕ, ℤ, List, refl}
+use Rattle.std.specs.Prelude.{◌≡◌, ℤ, List, refl}
 use Rattle.std.proofs.Common.{ap}
 use Rattle.std.specs.Prelude.{Option, Some, None, IsSome, ◌↔◌}
 use Rattle.std.specs.Ordering.{nat_cmp, int_cmp, ordering_reverse}
