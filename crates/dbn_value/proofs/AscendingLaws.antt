@@ -284,9 +284,13 @@ module _ {K L : Type 0} {S : L → L → Ordering} (o : IsTotalOrder S) (exact :
   pub images_in : (f : K → L) (x : K) (xs : List K) → In x xs → In (f x) (ascending S (map f xs))
   images_in f x xs at = ascending_in o exact (f x) (map f xs) (map_in f x xs at)
 
-  -- under a one-to-one map what has its image there is there itself
+  -- what has its image there is there itself, where no other member has that image
+  pub image_among : (f : K → L) (x : K) (xs : List K) → ((y : K) → In y xs → f x ≡ f y → x ≡ y) → In (f x) (ascending S (map f xs)) → In x xs
+  image_among f x xs one at = let found = in_images f (f x) xs at in subst (λ z. In z xs) (sym (one found.0 found.1 found.2)) found.1
+
+  -- and under a one-to-one map always
   pub image_only : (f : K → L) (x : K) (xs : List K) → IsOneToOne f → In (f x) (ascending S (map f xs)) → In x xs
-  image_only f x xs one at = let found = in_images f (f x) xs at in subst (λ z. In z xs) (sym (one x found.0 found.2)) found.1
+  image_only f x xs one at = image_among f x xs (λ y there same. one x y same) at
 
 -- ---- products
 

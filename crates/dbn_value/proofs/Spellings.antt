@@ -1,5 +1,5 @@
 -- The spelling of a value is read as that value, and only it.
-use Rattle.std.proofs.Common.{rules, arith, ◌≡◌, ◌+◌, ◌<◌, ◌≤◌, ◌^◌, ◌==◌, ◌&&◌, ◌++◌, ℕ, zero, suc, ℤ, pos, negsuc, neg_ℤ, Bool, true, false, List, [], ◌∷◌, length, get_or, Option, Some, None, nat_lt, if◌then◌else◌, refl, sym, ap, ◌∙◌, subst, eqb-true, ltb-true, ◌||◌, append_assoc, FitsSigned, w64, drop, take, ◌-◌, ◌≢◌}
+use Rattle.std.proofs.Common.{arith, ◌≡◌, ◌+◌, ◌<◌, ◌^◌, ◌==◌, ◌&&◌, ◌++◌, ℕ, zero, suc, ℤ, pos, negsuc, Bool, true, false, List, [], ◌∷◌, length, get_or, Option, Some, None, if◌then◌else◌, refl, sym, ap, ◌∙◌, subst, eqb-true, ◌||◌, append_assoc, FitsSigned, w64, drop, take, ◌-◌, ◌≢◌}
 use borrow.Author.Tests.{ne_eqb}
 use Rattle.std.proofs.lemmas.Int.{ints}
 use Rattle.std.specs.Option.{option_map, option_and_then}
@@ -9,7 +9,7 @@ use Rattle.std.specs.Fmt.{decimal}
 use Rattle.std.proofs.lemmas.Fmt.{decimal_nonempty, digits_decimal}
 use Rattle.std.proofs.lemmas.Bool.Decides.{nat_tests}
 use Rattle.std.proofs.lemmas.Grind.{common_steps}
-use Rattle.dbn_value.specs.Spelling.{is_special, escape, escaped, quoted, spelling, unescaped, number_below, text_value, id_value, natural_value, negative_value, value_from, value_of_bytes, IsValue}
+use Rattle.dbn_value.specs.Spelling.{is_special, escape, escaped, spelling, unescaped, number_below, text_value, id_value, natural_value, negative_value, value_from, value_of_bytes, IsValue}
 use Rattle.dbn_value.specs.Text.{is_text, IsText}
 use Rattle.dbn_value.specs.declared.value.Value.{Value}
 use Rattle.dbn_value.specs.declared.value.Value.TheVariants.{Int, Text, Id}

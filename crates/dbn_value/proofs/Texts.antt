@@ -1,5 +1,5 @@
 -- When bytes are a text.
-use Rattle.std.proofs.Common.{rules, arith, ◌≡◌, ◌<◌, ◌≤◌, ℕ, Bool, true, false, not, ◌&&◌, List, length, nat_le, refl, sym, ap, ◌∙◌, IsUtf8}
+use Rattle.std.proofs.Common.{arith, ◌≡◌, ◌<◌, ◌≤◌, ℕ, Bool, true, false, not, ◌&&◌, List, length, nat_le, refl, IsUtf8}
 use Rattle.std.specs.List.{list_any}
 use Rattle.std.specs.Char.{is_control}
 use Rattle.std.specs.Str.{is_utf8, chars}

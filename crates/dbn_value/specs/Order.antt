@@ -1,7 +1,7 @@
 -- The order of values and of rows, the type of a value and the number of an int.
-use Rattle.std.specs.Prelude.{◌≡◌, ℕ, ℤ, List, refl}
+use Rattle.std.specs.Prelude.{◌≡◌, ℤ, List, refl}
 use Rattle.std.proofs.Common.{ap}
-use Rattle.std.specs.Prelude.{Option, Some, None}
+use Rattle.std.specs.Prelude.{Option, Some, None, IsSome, ◌↔◌}
 use Rattle.std.specs.Ordering.{nat_cmp, int_cmp, ordering_reverse}
 use Rattle.std.specs.declared.cmp.Ordering.{Ordering}
 use Rattle.std.specs.declared.cmp.Ordering.TheVariants.{Less, Equal, Greater}
@@ -86,6 +86,11 @@ rows_total = lists_total value_total
 
 pub exact_rows : IsAntisymmetric row_cmp
 exact_rows = slice_cmp-IsAntisymmetric exact_values
+
+pub ints_have_numbers : (v : Value) → (value_type v ≡ col.Int) ↔ IsSome (value_int v)
+ints_have_numbers (Int n) = ((λ p. refl), (λ p. refl))
+ints_have_numbers (Text bytes) = ((λ p. cc), (λ p. cc))
+ints_have_numbers (Id n) = ((λ p. cc), (λ p. cc))
 
 pub ints_by_number : (a b : Value) (m n : ℤ) → value_int a ≡ Some m → value_int b ≡ Some n → value_cmp a b ≡ int_cmp m n
 ints_by_number (Int a) (Int b) m n p q = cc

@@ -1,5 +1,5 @@
 -- Which bytes are a text, and which are a name.
-use Rattle.std.specs.Prelude.{ℕ, ◌≤◌, Bool, true, false, not, ◌&&◌, ◌||◌, ◌==◌, nat_le, List, [], ◌∷◌, length, IsTrue}
+use Rattle.std.specs.Prelude.{ℕ, Bool, false, not, ◌&&◌, ◌||◌, ◌==◌, nat_le, List, [], ◌∷◌, length, IsTrue}
 use Rattle.std.specs.List.{list_any, list_all}
 use Rattle.std.specs.Char.{is_control, is_ascii_alphabetic, is_ascii_alphanumeric}
 use Rattle.std.specs.Str.{chars, is_utf8}

@@ -1,8 +1,9 @@
-ghost use Rattle.std.specs.Prelude.{◌≡◌, ℤ, Option, Some, IfOk};
+ghost use Rattle.std.specs.Prelude.{◌≡◌, ◌↔◌, ℤ, Option, Some, IsSome, IfOk};
 ghost use Rattle.std.specs.Ordering.{int_cmp, eq_by_cmp};
 ghost use Rattle.std.specs.FinMap.{IsAntisymmetric};
 ghost use Rattle.dbn_value.specs.declared.value.ColType.{ColType as Column};
-ghost use Rattle.dbn_value.specs.Order.{value_type, value_int, exact_values, ints_by_number};
+ghost use Rattle.dbn_value.specs.declared.value.ColType.TheVariants as col;
+ghost use Rattle.dbn_value.specs.Order.{value_type, value_int, exact_values, ints_have_numbers, ints_by_number};
 
 use super::value::{ColType, IdNo, Txt, Value};
 use std::alloc::{AllocError, Global};
@@ -36,6 +37,9 @@ pub trait Cell: Sized + Ord + Drop {
 
     /// Cells that tie are equal.
     ghost exact: { IsAntisymmetric Self.cmp };
+
+    /// The cells of type int are those that stand for a number.
+    ghost have_numbers: { (c : Self) → (type_of c ≡ col.Int) ↔ IsSome (int_of c) };
 
     /// Cells of ints are ordered by their numbers.
     ghost by_number: { (a b : Self) (m n : ℤ) → int_of a ≡ Some m → int_of b ≡ Some n → Self.cmp a b ≡ int_cmp m n };
@@ -71,6 +75,8 @@ impl Cell for Value {
     }
 
     ghost exact = { exact_values };
+
+    ghost have_numbers = { ints_have_numbers };
 
     ghost by_number = { ints_by_number };
 }

@@ -1,124 +1,314 @@
+//! What no clause says: that calls succeed, and what bytes and orders from outside are.
+
 use super::{
-    Cell, Coder, ColType, CopyIn, IdNo, Name, Nums, PlainCoder, Row, Term, Txt, Value, ValueFault,
-    Var, compare, copy_items, pick, read_value, spell,
+    Bytes, Cell, Coder, ColType, CopyIn, IdNo, Name, Nums, PlainCoder, Row, Shape, Shapes, Term,
+    Txt, Value, ValueFault, Var, compare, copy_items, in_range, pick, read_value, spell,
 };
+use sqlite_items::Items;
 use std::alloc::{AllocError, Global};
 use std::cmp::Ordering;
-
-fn row_of(alloc: Global, a: Value, b: Value, c: Value) -> Result<Row<Value>, AllocError> {
-    let mut cells = Vec::new(alloc);
-    cells.push(a)?;
-    cells.push(b)?;
-    cells.push(c)?;
-    Ok(Row::from_vec(cells))
-}
+use std::test::Fail;
 
 #[test]
-fn values_are_read_and_spelled(rt: HostRuntime) {
+fn values_are_read_and_spelled(rt: HostRuntime) -> Result<(), Fail> {
     let alloc = rt.alloc();
-    let spellings: [&[u8]; 7] = [
-        b"\"\xc3\x89va\"",
-        b"#7",
-        b"#0",
-        b"0",
-        b"-9223372036854775808",
-        b"9223372036854775807",
-        b"\"a\\\"\\\\b\"",
+    let rows: [(&[u8], ColType); 10] = [
+        (b"\"\xc3\x89va\"", ColType::Text),
+        (b"\"\"", ColType::Text),
+        (b"\"a\\\"\\\\b\"", ColType::Text),
+        (b"#0", ColType::Id),
+        (b"#7", ColType::Id),
+        (b"#4611686018427387903", ColType::Id),
+        (b"0", ColType::Int),
+        (b"-5", ColType::Int),
+        (b"-9223372036854775808", ColType::Int),
+        (b"9223372036854775807", ColType::Int),
     ];
-    for bytes in spellings {
-        match read_value(alloc, bytes) {
-            Ok(value) => match spell(alloc, &value) {
-                Ok(again) => assert!(rt; again.as_slice() == bytes),
-                Err(_) => assert!(rt; false),
-            },
-            Err(_) => assert!(rt; false),
-        }
+    for (bytes, column) in rows {
+        let value = read_value(alloc, bytes)?;
+        in_range(&value);
+        assert_eq!(rt; value.col_type(), column, "at {bytes:?}");
+        assert_eq!(rt; spell(alloc, &value)?.as_slice(), bytes);
     }
+    Ok(())
 }
 
 #[test]
 fn faulty_spellings_are_refused(rt: HostRuntime) {
-    let alloc = rt.alloc();
-    let spellings: [&[u8]; 10] = [
+    let rows: [&[u8]; 21] = [
         b"",
+        b"-",
+        b"#",
         b"-0",
         b"+1",
         b"007",
+        b"00",
+        b"-01",
         b"#07",
+        b"#-1",
+        b" 1",
+        b"1.0",
         b"#4611686018427387904",
         b"9223372036854775808",
-        b"\"a\nb\"",
-        b"\"a\\n\"",
+        b"-9223372036854775809",
         b"\"a",
+        b"\"a\"b\"",
+        b"\"a\\n\"",
+        b"\"a\nb\"",
+        b"\"\xc2\x9f\"",
+        b"\"\xff\"",
     ];
-    for bytes in spellings {
-        match read_value(alloc, bytes) {
-            Ok(_) => assert!(rt; false),
-            Err(fault) => assert!(rt; fault == ValueFault::Spelling),
-        }
+    for bytes in rows {
+        assert_eq!(rt;
+            fault(read_value(rt.alloc(), bytes)),
+            Some(ValueFault::Spelling),
+            "at {bytes:?}"
+        );
     }
+}
+
+/// The fault of a call, where it is refused.
+fn fault<T: Drop>(answer: Result<T, ValueFault>) -> Option<ValueFault> {
+    answer.err()
+}
+
+#[test]
+fn texts_are_utf8_without_control_characters(rt: HostRuntime) -> Result<(), Fail> {
+    let texts: [&[u8]; 6] = [
+        b"",
+        b" ~",
+        b"\xc3\x89va",
+        b"\xc2\xa0",
+        b"\xe2\x80\xa8",
+        b"\xf4\x8f\xbf\xbf",
+    ];
+    for bytes in texts {
+        let text = Txt::from_bytes(rt.alloc(), bytes)?;
+        assert_eq!(rt; text.as_bytes(), bytes);
+        assert_eq!(rt; text.copy_in(rt.alloc())?.as_bytes(), bytes);
+    }
+    let others: [&[u8]; 9] = [
+        b"\x00",
+        b"a\x1fb",
+        b"\n",
+        b"\x7f",
+        b"\xff",
+        b"\xc3",
+        b"\xc0\x80",
+        b"\xed\xa0\x80",
+        b"\xf4\x90\x80\x80",
+    ];
+    for bytes in others {
+        assert_eq!(rt;
+            fault(Txt::from_bytes(rt.alloc(), bytes)),
+            Some(ValueFault::Spelling),
+            "at {bytes:?}"
+        );
+    }
+    for last in 0x80u8..0xa0 {
+        let bytes = [0xc2, last];
+        assert_eq!(rt;
+            fault(Txt::from_bytes(rt.alloc(), &bytes)),
+            Some(ValueFault::Spelling),
+            "at {last}"
+        );
+    }
+    Ok(())
 }
 
 #[test]
 fn a_text_has_at_most_4096_bytes(rt: HostRuntime) {
-    let alloc = rt.alloc();
     let most = [b'a'; 4096];
     let over = [b'a'; 4097];
-    assert!(rt; Txt::from_bytes(alloc, &most).is_ok());
-    assert!(rt; Txt::from_bytes(alloc, &over).is_err());
+    assert!(rt; Txt::from_bytes(rt.alloc(), &most).is_ok());
+    assert_eq!(rt;
+        fault(Txt::from_bytes(rt.alloc(), &over)),
+        Some(ValueFault::Spelling)
+    );
 }
 
 #[test]
-fn values_are_ordered_and_picked(rt: HostRuntime) -> Result<(), ValueFault> {
+fn ids_end_below_2_to_62(rt: HostRuntime) {
+    let rows = [
+        (0, Some(0)),
+        (7, Some(7)),
+        ((1 << 62) - 1, Some((1 << 62) - 1)),
+        (1 << 62, None),
+        (u64::MAX, None),
+    ];
+    for (number, wanted) in rows {
+        assert_eq!(rt; IdNo::new(number).map(|id| id.number()), wanted);
+    }
+}
+
+#[test]
+fn ints_come_before_texts_and_texts_before_ids(rt: HostRuntime) -> Result<(), Fail> {
     let alloc = rt.alloc();
-    let int = read_value(alloc, b"-5")?;
-    let text = read_value(alloc, b"\"\xc3\x89va\"")?;
-    let id = read_value(alloc, b"#7")?;
-    assert!(rt; compare(&int, &text) == Ordering::Less);
-    assert!(rt; compare(&text, &id) == Ordering::Less);
-    assert!(rt; id.col_type() == ColType::Id);
-    let row = row_of(alloc, int, text, id)?;
-    let columns = Nums::from_slice(alloc, &[2, 0])?;
-    assert!(rt; row.len() == 3);
-    let chosen = pick(alloc, &row, columns.as_slice())?;
-    assert!(rt; chosen.len() == 2);
-    assert!(rt; chosen.as_slice()[0].same(&row.as_slice()[2]));
-    assert!(rt; row.copy_in(alloc)? == row);
+    let rows: [(&[u8], &[u8]); 9] = [
+        (b"-9223372036854775808", b"-10"),
+        (b"-10", b"-9"),
+        (b"9", b"10"),
+        (b"9223372036854775807", b"\"\""),
+        (b"\"10\"", b"\"9\""),
+        (b"\"a\"", b"\"ab\""),
+        (b"\"z\"", b"\"\xc3\x89va\""),
+        (b"\"\xc3\x89va\"", b"#0"),
+        (b"#9", b"#10"),
+    ];
+    for (low, high) in rows {
+        let (a, b) = (read_value(alloc, low)?, read_value(alloc, high)?);
+        assert_eq!(rt; compare(&a, &b), Ordering::Less, "at {low:?}");
+        assert_eq!(rt; compare(&b, &a), Ordering::Greater, "at {low:?}");
+        assert!(rt; a == a.copy_in(alloc)? && a < b);
+    }
+    Ok(())
+}
+
+/// The type of a cell, its order towards another one, and whether these two and the cell and its copy are the same.
+fn look<C: Cell>(
+    alloc: Global,
+    a: &C,
+    b: &C,
+) -> Result<(ColType, Ordering, bool, bool), AllocError> {
+    let copy = a.copy_in(alloc)?;
+    Ok((a.col_type(), a.order(b), a.same(b), a.same(&copy)))
+}
+
+/// The value of the cell that a value gets, where it is found again.
+fn code<P: Coder>(alloc: Global, value: &Value) -> Result<Option<Value>, AllocError> {
+    let mut coder = P::empty(alloc)?;
+    let cell = coder.put(alloc, value)?;
+    let again = coder.get(alloc, &cell)?;
+    Ok(match coder.find(alloc, value)? {
+        Some(found) => if found.same(&cell) { Some(again) } else { None },
+        None => None,
+    })
+}
+
+#[test]
+fn cells_and_coders_are_used_through_their_traits(rt: HostRuntime) -> Result<(), Fail> {
+    let alloc = rt.alloc();
+    let (int, id) = (read_value(alloc, b"-5")?, read_value(alloc, b"#7")?);
+    assert_eq!(rt;
+        look(alloc, &int, &id)?,
+        (ColType::Int, Ordering::Less, false, true)
+    );
+    assert_eq!(rt;
+        look(alloc, &id, &id)?,
+        (ColType::Id, Ordering::Equal, true, true)
+    );
+    assert_eq!(rt; code::<PlainCoder>(alloc, &id)?, Some(id));
+    let never_put = PlainCoder::empty(alloc)?.find(alloc, &int)?;
+    assert_eq!(rt; never_put, Some(int));
+    Ok(())
+}
+
+/// A row of an int, a text and an id.
+fn row(alloc: Global) -> Result<Row<Value>, Fail> {
+    let mut cells = Vec::new(alloc);
+    cells.push(read_value(alloc, b"-5")?)?;
+    cells.push(read_value(alloc, b"\"\xc3\x89va\"")?)?;
+    cells.push(read_value(alloc, b"#7")?)?;
+    Ok(Row::from_vec(cells))
+}
+
+#[test]
+fn columns_of_rows_are_picked(rt: HostRuntime) -> Result<(), Fail> {
+    let alloc = rt.alloc();
+    let row = row(alloc)?;
+    assert_eq!(rt; row.len(), 3);
+    let columns = Nums::from_slice(alloc, &[2, 0, 2])?;
+    let picked = pick(alloc, &row, columns.as_slice())?;
+    assert_eq!(rt; picked.len(), 3);
+    let (cells, chosen) = (row.as_slice(), picked.as_slice());
+    assert!(rt; chosen[0] == cells[2] && chosen[1] == cells[0] && chosen[2] == cells[2]);
+    let front = pick(alloc, &row, &[0, 1])?;
+    assert!(rt; front < row && row < picked && row.copy_in(alloc)? == row);
     Ok(())
 }
 
 #[test]
-fn names_and_variables_are_compared(rt: HostRuntime) -> Result<(), ValueFault> {
+fn lists_keep_what_they_are_made_of(rt: HostRuntime) -> Result<(), Fail> {
     let alloc = rt.alloc();
-    let name = Name::from_bytes(alloc, b"a-b_1")?;
-    assert!(rt; name.same(&name.copy_in(alloc)?));
-    assert!(rt; Name::from_bytes(alloc, b"<=").is_ok());
-    assert!(rt; Name::from_bytes(alloc, b"1a").is_err());
-    let first = Var { name, mark: 0 };
+    let bytes = Bytes::from_vec([1, 2].to_vec(alloc)?);
+    assert_eq!(rt; bytes.as_slice(), [1, 2].as_slice());
+    assert_eq!(rt; bytes.into_vec().as_slice(), [1, 2].as_slice());
+    let long = [1, 2, 3, 4, 5, 6, 7, 8, 9];
+    assert_eq!(rt; Nums::from_slice(alloc, &long)?.as_slice(), long.as_slice());
+    assert_eq!(rt;
+        Nums::from_vec(long.to_vec(alloc)?).as_slice(),
+        long.as_slice()
+    );
+    let shape: Shape = Items::from_vec([ColType::Id, ColType::Int].to_vec(alloc)?);
+    let mut shapes: Shapes = Items::new(alloc);
+    shapes.push(shape)?;
+    let again = shapes.copy_in(alloc)?;
+    assert_eq!(rt; again.len(), 1);
+    assert_eq!(rt;
+        again.as_slice()[0].as_slice(),
+        [ColType::Id, ColType::Int].as_slice()
+    );
+    Ok(())
+}
+
+#[test]
+fn names_are_identifiers_and_operators(rt: HostRuntime) -> Result<(), Fail> {
+    let names: [&[u8]; 9] = [b"a", b"Z9", b"a-b_1", b"=", b"!=", b"<", b"<=", b">", b">="];
+    for bytes in names {
+        let name = Name::from_bytes(rt.alloc(), bytes)?;
+        assert_eq!(rt; name.as_bytes(), bytes);
+        assert!(rt; name.same(&name.copy_in(rt.alloc())?));
+    }
+    let others: [&[u8]; 10] = [
+        b"",
+        b"1a",
+        b"_a",
+        b"-a",
+        b"a.b",
+        b"a b",
+        b"\xc3\x89va",
+        b"!",
+        b"==",
+        b"<>",
+    ];
+    for bytes in others {
+        assert_eq!(rt;
+            fault(Name::from_bytes(rt.alloc(), bytes)),
+            Some(ValueFault::Spelling),
+            "at {bytes:?}"
+        );
+    }
+    Ok(())
+}
+
+#[test]
+#[tactic(auto, unfolding(crate::specs::Text::is_name))]
+fn a_name_is_made_of_a_vector(rt: HostRuntime) -> Result<(), Fail> {
+    let name = Name::from_vec(b"Ticket".to_vec(rt.alloc())?);
+    assert_eq!(rt; name.as_bytes(), b"Ticket".as_slice());
+    Ok(())
+}
+
+#[test]
+fn variables_and_terms_are_copied(rt: HostRuntime) -> Result<(), Fail> {
+    let alloc = rt.alloc();
+    let first = Var {
+        name: Name::from_bytes(alloc, b"x")?,
+        mark: 0,
+    };
     let second = Var {
         name: first.name.copy_in(alloc)?,
         mark: 1,
     };
-    assert!(rt; !first.same(&second));
-    let terms = [Term::Var(first), Term::Const(Value::Int(4))];
-    assert!(rt; copy_items(alloc, &terms)?.len() == 2);
-    Ok(())
-}
-
-#[test]
-fn the_plain_coder_uses_values(rt: HostRuntime) -> Result<(), ValueFault> {
-    let alloc = rt.alloc();
-    let mut coder = PlainCoder::empty(alloc)?;
-    let id = IdNo::new(7);
-    match id {
-        Some(id) => {
-            let value = Value::Id(id);
-            let cell = coder.put(alloc, &value)?;
-            assert!(rt; coder.find(alloc, &value)?.is_some());
-            assert!(rt; coder.get(alloc, &cell)? == value);
-        }
-        None => assert!(rt; false),
-    }
-    assert!(rt; IdNo::new(1 << 62).is_none());
+    assert!(rt; !first.same(&second) && first.same(&first.copy_in(alloc)?));
+    let typed = [(first, ColType::Id)];
+    let vars = copy_items(alloc, &typed)?;
+    assert_eq!(rt; vars.len(), 1);
+    let (var, column) = &vars.as_slice()[0];
+    assert!(rt; var.same(&typed[0].0) && *column == ColType::Id);
+    let fields = [(Name::from_bytes(alloc, b"f")?, ColType::Text)];
+    assert_eq!(rt; copy_items(alloc, &fields)?.len(), 1);
+    let terms = [Term::Var(second), Term::Const(Value::Int(4))];
+    assert_eq!(rt; copy_items(alloc, &terms)?.len(), 2);
     Ok(())
 }

@@ -1,5 +1,5 @@
 -- A number that `parse` refuses is past the limit.
-use Rattle.std.proofs.Common.{arith, ◌≡◌, ◌<◌, ◌^◌, sym, ap, ◌∙◌, subst}
+use Rattle.std.proofs.Common.{arith, sym, subst}
 use Rattle.std.specs.Str.Parse.{ParsesUnsigned}
 use Rattle.dbn_value.proofs.Numbers.{past_limit}
 use Rattle.dbn_value.proofs.reading.number_below.Goals as goal

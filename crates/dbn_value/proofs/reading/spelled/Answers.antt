@@ -1,5 +1,5 @@
 -- The value by the first byte.
-use Rattle.std.proofs.Common.{arith, ◌≡◌, sym, ap, ◌∙◌, subst, IfOk}
+use Rattle.std.proofs.Common.{arith, ◌≡◌, ◌∙◌, subst, IfOk}
 use Rattle.dbn_value.proofs.Spellings.{at_none, at_quote, at_hash, at_minus, at_digit}
 use Rattle.dbn_value.proofs.reading.spelled.Goals as goal
 

@@ -1,5 +1,5 @@
 -- One more column: its cell is the one that the row has there.
-use Rattle.std.proofs.Common.{arith, ◌≡◌, ◌<◌, ◌++◌, [], ◌∷◌, length, get_or, refl, sym, ap, ◌∙◌, if◌then◌else◌, is_ok}
+use Rattle.std.proofs.Common.{◌<◌, ◌++◌, [], ◌∷◌, length, get_or, refl, sym, ap, ◌∙◌, if◌then◌else◌, is_ok}
 use Rattle.std.proofs.lemmas.Option.{slice_get_read}
 use Rattle.dbn_value.proofs.Rows.{picked_more}
 use Rattle.dbn_value.proofs.row.pick_cells.Goals as goal

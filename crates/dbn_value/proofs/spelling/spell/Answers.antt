@@ -1,5 +1,5 @@
 -- The spelling is read as the value again.
-use Rattle.std.proofs.Common.{◌≡◌, ◌∙◌}
+use Rattle.std.proofs.Common.{◌∙◌}
 use Rattle.dbn_value.proofs.Spellings.{read_again}
 use Rattle.dbn_value.proofs.spelling.spell.Goals as goal
 
