@@ -18,7 +18,8 @@ use Rattle.dbn_instance.specs.declared.fact.Change.{Change}
 use Rattle.dbn_instance.specs.declared.fact.Change.TheVariants.{Plus, Minus}
 use Rattle.dbn_instance.specs.FactOrder.{fact_cmp, fact_total}
 use Rattle.dbn_instance.specs.Facts.{Relations, fact_of, AreInRange, IsInstance, has_fact, without_facts, after_action, changed, after_changes, is_among, lost_facts, gained_facts, net_changes}
-use Rattle.dbn_instance.proofs.FactLaws.{same_is, apart_false, among_from_in, in_range, length_changed, length_without_facts, instance_changed, has_with, has_without, has_with_facts, has_without_facts, in_lost, in_gained}
+use Rattle.dbn_instance.specs.Shortest.{IsShortest}
+use Rattle.dbn_instance.proofs.FactLaws.{net_changes_lead, same_is, apart_false, among_from_in, in_range, length_changed, length_without_facts, instance_changed, has_with, has_without, has_with_facts, has_without_facts, in_lost, in_gained}
 
 -- ---- how many elements pass a test
 
@@ -110,10 +111,10 @@ module _ {C : Type 0} {cmp : C → C → Ordering} (o : IsTotalOrder cmp) (exact
   reaches (c ∷ changes) db target facts is all apart e =
       let within = All-head (λ (c : Change C). (fact_of c).rel < length db) c changes all in
       let later : tally (differs (changed cmp db c) target) facts ≤ length changes = reaches changes (changed cmp db c) target facts (instance_changed o db c is)
-          (subst (λ (n : ℕ). All (λ (c : Change C). (fact_of c).rel < n) changes) (sym (length_changed cmp db c)) (All-tail (λ (c : Change C). (fact_of c).rel < length db) c changes all))
-          apart e in
+      (subst (λ (n : ℕ). All (λ (c : Change C). (fact_of c).rel < n) changes) (sym (length_changed cmp db c)) (All-tail (λ (c : Change C). (fact_of c).rel < length db) c changes all))
+      apart e in
       let near : tally (differs db target) facts ≤ tally (differs (changed cmp db c) target) facts + 1 = tally_near same (differs db target) (differs (changed cmp db c) target) (fact_of c) (λ f here. same_is o exact f (fact_of c) here) facts apart
-          (λ f other. ap (λ b. unlike b (has_fact cmp target f)) (sym (others_stay db c f within is other))) in
+      (λ f other. ap (λ b. unlike b (has_fact cmp target f)) (sym (others_stay db c f within is other))) in
       omega arith
 
   apart_sorted : (facts : List (Fact C)) → IsStrictlySortedBy (fact_cmp cmp) facts → Apart same facts
@@ -148,18 +149,22 @@ module _ {C : Type 0} {cmp : C → C → Ordering} (o : IsTotalOrder cmp) (exact
         | false ↦ λ e. refl
       ] refl
 
-  pub net_changes_shortest : (deletes adds : List (Fact C)) (db : Relations C) (others : List (Change C)) → IsInstance cmp db → AreInRange db deletes → AreInRange db adds
+  shortest : (deletes adds : List (Fact C)) (db : Relations C) (others : List (Change C)) → IsInstance cmp db → AreInRange db deletes → AreInRange db adds
       → All (λ (c : Change C). (fact_of c).rel < length db) others → after_changes cmp others db ≡ after_action cmp deletes adds db
       → length (net_changes cmp deletes adds db) ≤ length others
-  net_changes_shortest deletes adds db others is deletes_in adds_in others_in e =
+  shortest deletes adds db others is deletes_in adds_in others_in e =
       let minus = lost_facts cmp deletes adds db in
       let plus = gained_facts cmp adds db in
       let apart = apart_append same minus plus
-          (apart_sorted minus (sorted_ascending (fact_total o) (filter (λ f. has_fact cmp db f && not (is_among cmp adds f)) deletes)))
-          (apart_sorted plus (sorted_ascending (fact_total o) (filter (λ f. not (has_fact cmp db f)) adds)))
-          (λ f g. between deletes adds db f g) in
+      (apart_sorted minus (sorted_ascending (fact_total o) (filter (λ f. has_fact cmp db f && not (is_among cmp adds f)) deletes)))
+      (apart_sorted plus (sorted_ascending (fact_total o) (filter (λ f. not (has_fact cmp db f)) adds)))
+      (λ f g. between deletes adds db f g) in
       let target = after_action cmp deletes adds db in
       let least : tally (differs db target) (minus ++ plus) ≤ length others = reaches others db target (minus ++ plus) is others_in apart e in
       let all : tally (differs db target) (minus ++ plus) ≡ length (minus ++ plus) = tally_all (differs db target) (minus ++ plus)
-          (λ f at. ⊎_elim (λ goes. lost_differs deletes adds db f is deletes_in adds_in goes) (λ comes. gained_differs deletes adds db f is deletes_in adds_in comes) (in_append f minus plus at)) in
+      (λ f at. ⊎_elim (λ goes. lost_differs deletes adds db f is deletes_in adds_in goes) (λ comes. gained_differs deletes adds db f is deletes_in adds_in comes) (in_append f minus plus at)) in
       omega (arith, length-append minus plus, length-append (map (λ f. Minus f) minus) (map (λ f. Plus f) plus), length-map minus (λ f. Minus f), length-map plus (λ f. Plus f))
+
+  pub net_changes_shortest : (deletes adds : List (Fact C)) (db : Relations C) → IsInstance cmp db → AreInRange db deletes → AreInRange db adds → IsShortest cmp (net_changes cmp deletes adds db) db
+  net_changes_shortest deletes adds db is deletes_in adds_in others others_in e =
+      shortest deletes adds db others is deletes_in adds_in others_in (e ∙ net_changes_lead o exact deletes adds db is deletes_in adds_in)

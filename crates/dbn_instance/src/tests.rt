@@ -168,11 +168,7 @@ fn facts_come_and_go(rt: HostRuntime) -> Result<(), Fail> {
     assert!(rt; facts_text(alloc, &instance)?.as_slice() == before);
     let mut second = Items::new(alloc);
     second.push(Change::Plus(fact(alloc, RESP, &["#0", "\"Ann\""])?))?;
-    second.push(Change::Minus(fact(
-        alloc,
-        TICKET,
-        &["#1", "\"printer\""],
-    )?))?;
+    second.push(Change::Minus(fact(alloc, TICKET, &["#1", "\"printer\""])?))?;
     make(alloc, &mut instance, second.as_slice())?;
     let after = b"Emp \"Ann\"\nTicket #0 \"printer\"\nResp #0 \"Ann\"\n".as_slice();
     assert!(rt; facts_text(alloc, &instance)?.as_slice() == after);
