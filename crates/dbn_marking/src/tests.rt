@@ -32,12 +32,7 @@ fn add<C: Cell>(
 }
 
 /// Takes tokens where the conditions of the call hold, else `None`.
-fn take<C: Cell>(
-    marking: &mut Marking<C>,
-    place: usize,
-    row: &Row<C>,
-    many: u64,
-) -> Option<bool> {
+fn take<C: Cell>(marking: &mut Marking<C>, place: usize, row: &Row<C>, many: u64) -> Option<bool> {
     if place < marking.places() && 0 < many && many <= marking.count(place, row) {
         Some(marking.take(place, row, many))
     } else {
@@ -117,6 +112,9 @@ fn the_greatest_count(rt: HostRuntime) -> Result<(), Fail> {
     assert!(rt; marking.places() == 2);
     assert!(rt; is_list(&marking.rows(alloc, 1)?, &[(1, 4_294_967_295)]));
     assert_eq!(rt; add(&mut marking, 1, ints(alloc, &[2])?, 1), Some(Ok(true)));
-    assert_eq!(rt; add(&mut marking, 1, ints(alloc, &[2])?, 1), Some(Ok(false)));
+    assert_eq!(rt;
+        add(&mut marking, 1, ints(alloc, &[2])?, 1),
+        Some(Ok(false))
+    );
     Ok(())
 }
