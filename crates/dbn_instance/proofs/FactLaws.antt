@@ -1,5 +1,5 @@
 -- Instances after changes: they stay instances, which facts are there, and that net changes lead where the action leads and can be taken back.
-use Rattle.std.proofs.Common.{◌≡◌, ℕ, ◌<◌, ◌≢◌, zero, suc, Bool, true, false, cond, not, ◌&&◌, ◌||◌, List, [], ◌∷◌, ◌++◌, map, refl, sym, ap, ◌∙◌, subst, inl, inr, ⊎_elim, length, get_or, set, arith, get_or-set_same, get_or-set_other, length-set, replicate, take, ◌+◌, append-nil, Result, Ok, Err, OnErr, OnOk}
+use Rattle.std.proofs.Common.{◌≡◌, ℕ, ◌<◌, ◌≢◌, zero, suc, Bool, true, false, cond, not, ◌&&◌, ◌||◌, List, [], ◌∷◌, ◌++◌, map, refl, sym, ap, ◌∙◌, subst, inl, inr, ⊎_elim, length, get_or, set, arith, get_or-set_same, get_or-set_other, length-set, replicate, take, ◌+◌, append-nil, drop, add-one, drop-cons, if◌then◌else◌, Result, Ok, Err, OnErr, OnOk}
 use Rattle.std.specs.declared.cmp.Ordering.{Ordering}
 use Rattle.std.specs.declared.cmp.Ordering.TheVariants.{Less, Equal, Greater}
 use Rattle.std.specs.Ordering.{eq_by_cmp, is_eq, nat_cmp, ordering_then}
@@ -12,23 +12,54 @@ use Rattle.std.specs.BTreeMap.{is_at}
 use Rattle.std.specs.BTreeSet.{insert_key}
 use Rattle.std.specs.Set.{remove_key}
 use Rattle.std.proofs.lemmas.Bool.{true≢false, cases_eq, and_parts, not-true}
+use Rattle.std.proofs.lemmas.Option.{slice_get_read}
 use Rattle.std.proofs.lemmas.Result.{on_ok_weaker}
 use Rattle.std.proofs.lemmas.List.Elements.{All-head, All-tail, filter_more}
 use Rattle.std.proofs.lemmas.Map.Keys.{sorted_tail}
 use Rattle.std.proofs.lemmas.Map.Views.{any-filter_same}
 use Rattle.dbn_value.specs.Members.{In}
 use Rattle.dbn_value.specs.Ascending.{ascending}
-use Rattle.dbn_value.proofs.MemberLaws.{in_any, in_filter, all_elements_at, all_elements_from}
+use Rattle.dbn_value.proofs.MemberLaws.{in_any, in_filter, in_append, in_map, all_elements_at, all_elements_from}
 use Rattle.dbn_value.proofs.AscendingLaws.{sorted_nil, sorted_insert_key, sorted_remove_key, sorted_ascending, any_insert_key, any_remove_key, any_ascending, ascending_push, in_ascending, head_below, same_tests, is_one}
 use Rattle.dbn_instance.specs.declared.fact.Fact.{Fact}
 use Rattle.dbn_instance.specs.declared.fact.Change.{Change}
 use Rattle.dbn_instance.specs.declared.fact.Change.TheVariants.{Plus, Minus}
 use Rattle.dbn_instance.specs.FactOrder.{fact_cmp, fact_total}
-use Rattle.dbn_instance.specs.Facts.{Relations, rows_of, fact_of, turned, AreInRange, IsInstance, has_fact, with_fact, without_fact, with_facts, without_facts, after_action, changed, after_changes, taken_back, Fits, AllFit, is_among, lost_facts, gained_facts, net_changes}
+use Rattle.dbn_instance.specs.Facts.{Relations, rows_of, fact_of, comes, turned, AreInRange, IsInstance, has_fact, with_fact, without_fact, with_facts, without_facts, after_action, changed, after_changes, taken_back, StoppedAt, Fits, AllFit, is_among, lost_facts, gained_facts, net_changes}
 
 pub on_err : {T E P : Type 0} (r : Result T E) → P → OnErr r P
 on_err (Ok a) p = tt
 on_err (Err e) p = p
+
+-- ---- one change, and the change that takes it back
+
+module _ {C : Type 0} (cmp : C → C → Ordering) where
+  pub changed_is : (db : Relations C) (c : Change C) → changed cmp db c ≡ (if comes c then with_fact cmp db (fact_of c) else without_fact cmp db (fact_of c))
+  changed_is db (Plus f) = refl
+  changed_is db (Minus f) = refl
+
+  pub turned_is : (db : Relations C) (c : Change C) → changed cmp db (turned c) ≡ (if not (comes c) then with_fact cmp db (fact_of c) else without_fact cmp db (fact_of c))
+  turned_is db (Plus f) = refl
+  turned_is db (Minus f) = refl
+
+  -- one more change is taken back
+  pub back_more : (changes : List (Change C)) (at next : ℕ) (c : Change C) (old new : Relations C) → at < length changes → at + 1 ≡ next → c ≡ get_or changes at c
+      → new ≡ (if not (comes c) then with_fact cmp (taken_back cmp (drop next changes) old) (fact_of c) else without_fact cmp (taken_back cmp (drop next changes) old) (fact_of c))
+      → new ≡ taken_back cmp (drop at changes) old
+  back_more changes at next c old new within after is made =
+      made
+      ∙ sym (turned_is (taken_back cmp (drop next changes) old) c)
+      ∙ ap (λ n. changed cmp (taken_back cmp (drop n changes) old) (turned c)) (sym after ∙ add-one at)
+      ∙ ap (λ d. changed cmp (taken_back cmp (drop (suc at) changes) old) (turned d)) is
+      ∙ ap (λ l. taken_back cmp l old) (sym (drop-cons changes at c within))
+
+  pub stopped_at : (changes : List (Change C)) (at next : ℕ) (c : Change C) (old new : Relations C) → at < length changes → at + 1 ≡ next → c ≡ get_or changes at c → not (comes c) ≡ true
+      → new ≡ taken_back cmp (drop next changes) old → StoppedAt cmp at changes old new
+  stopped_at changes at next (Plus f) old new within after is goes behind = absurd (true≢false (sym goes))
+  stopped_at changes at next (Minus f) old new within after is goes behind = record {
+    minus = (f, slice_get_read changes (length changes) at (Minus f) refl within is);
+    behind = behind ∙ ap (λ n. taken_back cmp (drop n changes) old) (sym after);
+  }
 
 -- ---- the order of facts
 
@@ -74,7 +105,7 @@ module _ {C : Type 0} (cmp : C → C → Ordering) where
   instance_empty zero = tt
   instance_empty (suc n) = (sorted_nil (slice_cmp cmp), instance_empty n)
 
-  length_changed : (db : Relations C) (c : Change C) → length (changed cmp db c) ≡ length db
+  pub length_changed : (db : Relations C) (c : Change C) → length (changed cmp db c) ≡ length db
   length_changed db (Plus f) = length-set db f.rel _
   length_changed db (Minus f) = length-set db f.rel _
 
@@ -140,7 +171,7 @@ module _ {C : Type 0} {cmp : C → C → Ordering} (o : IsTotalOrder cmp) (exact
   abbrev same : Fact C → Fact C → Bool
   same f g = eq_by_cmp (fact_cmp cmp) f g
 
-  same_is : (f g : Fact C) → same f g ≡ true → f ≡ g
+  pub same_is : (f g : Fact C) → same f g ≡ true → f ≡ g
   same_is f g e = is_one (fact_total o) (fact_exact exact) f g e
 
   -- at the relation that changes, and at the others
@@ -182,7 +213,7 @@ module _ {C : Type 0} {cmp : C → C → Ordering} (o : IsTotalOrder cmp) (exact
       let tails : x ≡ y = same_instance x y is.1 js.1 (omega arith) (λ f below. each (record { rel = suc f.rel; row = f.row }) (omega arith)) in
       λ i. heads i ∷ tails i
 
-  in_range : (n m : ℕ) (facts : List (Fact C)) → m ≡ n → All (λ f. f.rel < n) facts → All (λ f. f.rel < m) facts
+  pub in_range : (n m : ℕ) (facts : List (Fact C)) → m ≡ n → All (λ f. f.rel < n) facts → All (λ f. f.rel < m) facts
   in_range n m facts e all = subst (λ (k : ℕ). All (λ (f : Fact C). f.rel < k) facts) (sym e) all
 
   pub has_with_facts : (db : Relations C) (facts : List (Fact C)) (g : Fact C) → AreInRange db facts → has_fact cmp (with_facts cmp db facts) g ≡ (is_among cmp facts g || has_fact cmp db g)
@@ -201,7 +232,7 @@ module _ {C : Type 0} {cmp : C → C → Ordering} (o : IsTotalOrder cmp) (exact
 
   -- ---- net changes
 
-  among_from_in : (facts : List (Fact C)) (f : Fact C) → In f facts → is_among cmp facts f ≡ true
+  pub among_from_in : (facts : List (Fact C)) (f : Fact C) → In f facts → is_among cmp facts f ≡ true
   among_from_in facts f at = in_any (same f) f facts at (ap is_eq (tied_itself (fact_total o) f))
 
   pub in_lost : (deletes adds : List (Fact C)) (db : Relations C) (f : Fact C) → In f (lost_facts cmp deletes adds db) → In f deletes × (has_fact cmp db f ≡ true)
@@ -235,11 +266,23 @@ module _ {C : Type 0} {cmp : C → C → Ordering} (o : IsTotalOrder cmp) (exact
   after_parts [] (f ∷ plus) db = after_parts [] plus (with_fact cmp db f)
   after_parts (f ∷ minus) plus db = after_parts minus plus (without_fact cmp db f)
 
-  lost_in_range : (deletes adds : List (Fact C)) (db : Relations C) → AreInRange db deletes → AreInRange db (lost_facts cmp deletes adds db)
+  pub lost_in_range : (deletes adds : List (Fact C)) (db : Relations C) → AreInRange db deletes → AreInRange db (lost_facts cmp deletes adds db)
   lost_in_range deletes adds db all = all_elements_from (λ (f : Fact C). f.rel < length db) _ (λ f at. all_elements_at (λ (f : Fact C). f.rel < length db) f deletes all (in_lost deletes adds db f at).0)
 
-  gained_in_range : (adds : List (Fact C)) (db : Relations C) → AreInRange db adds → AreInRange db (gained_facts cmp adds db)
+  pub gained_in_range : (adds : List (Fact C)) (db : Relations C) → AreInRange db adds → AreInRange db (gained_facts cmp adds db)
   gained_in_range adds db all = all_elements_from (λ (f : Fact C). f.rel < length db) _ (λ f at. all_elements_at (λ (f : Fact C). f.rel < length db) f adds all (in_gained adds db f at).0)
+
+  pub net_changes_in_range : (deletes adds : List (Fact C)) (db : Relations C) → AreInRange db deletes → AreInRange db adds → All (λ (c : Change C). (fact_of c).rel < length db) (net_changes cmp deletes adds db)
+  net_changes_in_range deletes adds db deletes_in adds_in =
+      let within : Change C → Type 0 = λ c. (fact_of c).rel < length db in
+      all_elements_from within (net_changes cmp deletes adds db)
+      (λ c at.
+      ⊎_elim
+      (λ goes. let found = in_map (λ f. Minus f) c (lost_facts cmp deletes adds db) goes in
+      subst within (sym found.2) (all_elements_at (λ (f : Fact C). f.rel < length db) found.0 (lost_facts cmp deletes adds db) (lost_in_range deletes adds db deletes_in) found.1))
+      (λ comes_in. let found = in_map (λ f. Plus f) c (gained_facts cmp adds db) comes_in in
+      subst within (sym found.2) (all_elements_at (λ (f : Fact C). f.rel < length db) found.0 (gained_facts cmp adds db) (gained_in_range adds db adds_in) found.1))
+      (in_append c (map (λ f. Minus f) (lost_facts cmp deletes adds db)) (map (λ f. Plus f) (gained_facts cmp adds db)) at))
 
   -- the net changes, made one after the other, lead to what the action makes of the instance
   pub net_changes_lead : (deletes adds : List (Fact C)) (db : Relations C) → IsInstance cmp db → AreInRange db deletes → AreInRange db adds → after_changes cmp (net_changes cmp deletes adds db) db ≡ after_action cmp deletes adds db
@@ -278,7 +321,7 @@ module _ {C : Type 0} {cmp : C → C → Ordering} (o : IsTotalOrder cmp) (exact
 
   -- ---- each change fits
 
-  apart_false : (f g : Fact C) → fact_cmp cmp f g ≡ Less → same g f ≡ false
+  pub apart_false : (f g : Fact C) → fact_cmp cmp f g ≡ Less → same g f ≡ false
   apart_false f g e = (eq_by_cmp_equiv (fact_total o)).symm g f ∙ ap is_eq e
 
   pluses_fit : (plus : List (Fact C)) (db : Relations C) → IsStrictlySortedBy (fact_cmp cmp) plus → AreInRange db plus → ((f : Fact C) → In f plus → has_fact cmp db f ≡ false) → AllFit cmp (map (λ f. Plus f) plus) db

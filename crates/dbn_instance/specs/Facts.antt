@@ -1,6 +1,6 @@
 -- An instance as a list of its relations, each a strictly ascending list of rows; its changes, and what an action makes of it.
 -- cmp is the order of cells.
-use Rattle.std.specs.Prelude.{◌≡◌, ℕ, ◌<◌, Bool, true, false, not, ◌&&◌, List, [], ◌∷◌, ◌++◌, map, length, slice_index_or, slice_set}
+use Rattle.std.specs.Prelude.{◌≡◌, ℕ, ◌+◌, ◌<◌, Bool, true, false, not, ◌&&◌, List, [], ◌∷◌, ◌++◌, map, length, drop, Some, slice_get, slice_index_or, slice_set}
 use Rattle.std.specs.declared.cmp.Ordering.{Ordering}
 use Rattle.std.specs.Ordering.{eq_by_cmp}
 use Rattle.std.specs.Cmp.Lexicographic.{slice_cmp}
@@ -28,6 +28,11 @@ module _ {C : Type 0} where
   abbrev pub fact_of : Change C → Fact C
   fact_of (Plus f) = f
   fact_of (Minus f) = f
+
+  -- whether the fact of a change comes; else it goes
+  abbrev pub comes : Change C → Bool
+  comes (Plus f) = true
+  comes (Minus f) = false
 
   -- the change that takes a change back
   abbrev pub turned : Change C → Change C
@@ -78,6 +83,11 @@ module _ {C : Type 0} where
     abbrev pub taken_back : List (Change C) → Relations C → Relations C
     taken_back [] db = db
     taken_back (c ∷ changes) db = changed (taken_back changes db) (turned c)
+
+    -- taking changes back stopped at a Minus, whose fact wants memory to come again: exactly the changes behind it are taken back
+    pub record StoppedAt (at : ℕ) (changes : List (Change C)) (old new : Relations C) : Type 0 where
+      pub minus : (f : Fact C) × (slice_get changes at ≡ Some (Minus f))
+      pub behind : new ≡ taken_back (drop (at + 1) changes) old
 
     -- a fact that comes isn't there, and one that goes is
     abbrev pub Fits : Relations C → Change C → Type 0

@@ -1,3 +1,4 @@
 pub mod FactOrder
 pub mod Facts
 pub mod Grounding
+pub mod Shortest

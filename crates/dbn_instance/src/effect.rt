@@ -1,7 +1,9 @@
-ghost use Rattle.std.specs.Prelude.{◌≡◌, ◌++◌, map, if◌then◌else◌, IfOk, OnOk};
+ghost use Rattle.std.specs.Prelude.{◌≡◌, ◌<◌, ◌++◌, map, if◌then◌else◌, length, IfOk, OnOk};
+ghost use Rattle.std.specs.List.{All};
 ghost use Rattle.std.specs.BTreeSet.{insert_key};
 ghost use Rattle.dbn_instance.specs.FactOrder.{fact_cmp};
-ghost use Rattle.dbn_instance.specs.Facts.{AreInRange, is_among, lost_facts, gained_facts, net_changes, after_action, after_changes, AllFit};
+ghost use Rattle.dbn_instance.specs.Facts.{fact_of, AreInRange, is_among, lost_facts, gained_facts, net_changes, after_action, after_changes, AllFit};
+ghost use Rattle.dbn_instance.specs.Shortest.{IsShortest};
 ghost use Rattle.dbn_instance.specs.declared.fact.Change.TheVariants.{Plus, Minus};
 
 use super::fact::{Change, Changes, Fact, Facts};
@@ -24,6 +26,8 @@ pub fn net_changes<C: Cell>(
     requires adds { AreInRange instance.now adds.now }
     ensures exact { IfOk result (λ changes. changes ≡ net_changes C.cmp deletes.now adds.now instance.now) }
     ensures leads { IfOk result (λ changes. after_changes C.cmp changes instance.now ≡ after_action C.cmp deletes.now adds.now instance.now) }
+    ensures shortest { IfOk result (λ changes. IsShortest C.cmp changes instance.now) }
+    ensures in_range { IfOk result (λ changes. All (λ c. (fact_of c).rel < length instance.now) changes) }
     ensures fits { IfOk result (λ changes. AllFit C.cmp changes instance.now) }
 {
     let lost = lost(alloc, deletes.as_slice(), adds.as_slice(), instance)?;
@@ -31,6 +35,7 @@ pub fn net_changes<C: Cell>(
     let mut changes = Items::new(alloc);
     push_minuses(&mut changes, lost)?;
     push_pluses(&mut changes, gained)?;
+    // The call tells the proof that the rows of each relation ascend.
     let _count = instance.relations();
     Ok(changes)
 }

@@ -1,8 +1,9 @@
-ghost use Rattle.std.specs.Prelude.{refl};
+ghost use Rattle.std.specs.Prelude.{◌≡◌, refl};
 ghost use Rattle.std.specs.Ordering.{eq_by_cmp, as_partial_cmp};
 ghost use Rattle.std.specs.Cmp.{partial_equiv_from_equiv, eq_by_cmp_equiv, partial_order_from_total};
 ghost use Rattle.std.specs.Cmp.Lexicographic.{slice_cmp, lists_total};
 ghost use Rattle.dbn_instance.specs.FactOrder.{fact_cmp, fact_total};
+ghost use Rattle.dbn_instance.specs.Facts.{fact_of, comes};
 
 use dbn_value::{Cell, CopyIn, Name, Row, Terms, TypedVars};
 use sqlite_items::Items;
@@ -28,6 +29,25 @@ pub enum Change<C> {
 
 /// A list of changes, of which the first comes first.
 pub type Changes<C> = Items<Change<C>>;
+
+impl<C> Change<C> {
+    /// The fact that comes or goes.
+    pub(crate) fn fact(&self) -> &Fact<C>
+        ensures { result.now ≡ fact_of self.now }
+    {
+        match self {
+            Change::Plus(fact) => fact,
+            Change::Minus(fact) => fact,
+        }
+    }
+
+    /// Whether the fact comes; else it goes.
+    pub(crate) fn comes(&self) -> bool
+        ensures { result ≡ comes self.now }
+    {
+        matches!(self, Change::Plus(_))
+    }
+}
 
 /// A fact with terms in place of cells.
 #[derive(Debug, Drop)]

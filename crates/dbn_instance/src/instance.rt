@@ -1,8 +1,8 @@
-ghost use Rattle.std.specs.Prelude.{◌≡◌, ◌<◌, ℕ, List, [], length, replicate, drop, IfOk, OnOk, OnErr};
+ghost use Rattle.std.specs.Prelude.{◌≡◌, ◌<◌, ℕ, List, [], length, replicate, if◌then◌else◌, IfOk, OnOk, OnErr, IsTrue};
 ghost use Rattle.std.specs.List.{All};
 ghost use Rattle.std.specs.List.Sorted.{IsStrictlySortedBy};
 ghost use Rattle.std.specs.Cmp.Lexicographic.{slice_cmp};
-ghost use Rattle.dbn_instance.specs.Facts.{Relations, rows_of, fact_of, turned, has_fact, with_fact, without_fact, changed, after_changes, taken_back, AllFit, IsInstance};
+ghost use Rattle.dbn_instance.specs.Facts.{rows_of, fact_of, comes, has_fact, with_fact, without_fact, changed, after_changes, taken_back, StoppedAt, AllFit, IsInstance};
 
 use super::fact::{Change, Changes, Fact};
 use super::relation::Relation;
@@ -68,28 +68,26 @@ impl<C: Cell> Instance<C> {
     }
 
     /// Makes the change: a Plus adds its fact, unless it is there, and a Minus takes its fact out. After want of memory,
-    /// which a Minus never meets, the instance is unchanged.
+    /// which only a Plus meets, the instance is unchanged.
     pub fn apply(&mut self, alloc: Global, change: &Change<C>) -> Result<(), AllocError>
         requires { (fact_of change.now).rel < length self.old }
         ensures ok { OnOk result (self.new ≡ changed C.cmp self.old change.now) }
+        ensures relations { length self.new ≡ length self.old }
+        ensures room { OnErr result (IsTrue (comes change.now)) }
         ensures err { OnErr result (self.new ≡ self.old) }
     {
-        match change {
-            Change::Plus(fact) => self.add(alloc, fact),
-            Change::Minus(fact) => {
-                self.remove(fact);
-                Ok(())
-            }
-        }
+        self.put(alloc, change.fact(), change.comes())
     }
 
     /// Takes changes back, the last of them first: changes that were just made, each where it fitted, are undone.
-    /// After want of memory the changes from some place in the list on are taken back, and those before it are not.
+    /// After want of memory it stopped at a Minus, since only a fact that comes again takes memory: exactly the changes
+    /// behind it are taken back.
     pub fn revert(&mut self, alloc: Global, changes: &Changes<C>) -> Result<(), AllocError>
         requires { All (λ c. (fact_of c).rel < length self.old) changes.now }
         ensures ok { OnOk result (self.new ≡ taken_back C.cmp changes.now self.old) }
         ensures back { OnOk result ((before : List (List (List C))) → IsInstance C.cmp before → AllFit C.cmp changes.now before → self.old ≡ after_changes C.cmp changes.now before → self.new ≡ before) }
-        ensures err { OnErr result ((n : ℕ) × (self.new ≡ taken_back C.cmp (drop n changes.now) self.old)) }
+        ensures relations { length self.new ≡ length self.old }
+        ensures err { OnErr result ((at : ℕ) × StoppedAt C.cmp at changes.now self.old self.new) }
     {
         self.undo_all(alloc, changes.as_slice())
     }
@@ -97,26 +95,29 @@ impl<C: Cell> Instance<C> {
     fn undo_all(&mut self, alloc: Global, changes: &[Change<C>]) -> Result<(), AllocError>
         requires { All (λ c. (fact_of c).rel < length self.old) changes.now }
         ensures ok { OnOk result (self.new ≡ taken_back C.cmp changes.now self.old) }
-        ensures err { OnErr result ((n : ℕ) × (self.new ≡ taken_back C.cmp (drop n changes.now) self.old)) }
+        ensures relations { length self.new ≡ length self.old }
+        ensures err { OnErr result ((at : ℕ) × StoppedAt C.cmp at changes.now self.old self.new) }
     {
         for done in 0..changes.len() {
-            self.undo(alloc, &changes[changes.len() - 1 - done])?;
+            let last = &changes[changes.len() - 1 - done];
+            self.put(alloc, last.fact(), !last.comes())?;
         }
         Ok(())
     }
 
-    /// Takes the change back.
-    fn undo(&mut self, alloc: Global, change: &Change<C>) -> Result<(), AllocError>
-        requires { (fact_of change.now).rel < length self.old }
-        ensures ok { OnOk result (self.new ≡ changed C.cmp self.old (turned change.now)) }
+    /// Makes the fact be there, or not be there. After want of memory, which only a fact that comes meets, the instance
+    /// is unchanged.
+    fn put(&mut self, alloc: Global, fact: &Fact<C>, there: bool) -> Result<(), AllocError>
+        requires { fact.now.rel < length self.old }
+        ensures ok { OnOk result (self.new ≡ (if there then with_fact C.cmp self.old fact.now else without_fact C.cmp self.old fact.now)) }
+        ensures room { OnErr result (IsTrue there) }
         ensures err { OnErr result (self.new ≡ self.old) }
     {
-        match change {
-            Change::Minus(fact) => self.add(alloc, fact),
-            Change::Plus(fact) => {
-                self.remove(fact);
-                Ok(())
-            }
+        if there {
+            self.add(alloc, fact)
+        } else {
+            self.remove(fact);
+            Ok(())
         }
     }
 

@@ -11,3 +11,6 @@ pub use effect::net_changes;
 pub use fact::{Action, Change, Changes, Fact, FactPattern, FactPatterns, Facts};
 pub use grounding::ground;
 pub use instance::Instance;
+
+#[cfg(test)]
+mod tests;

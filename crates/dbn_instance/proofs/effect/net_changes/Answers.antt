@@ -1,6 +1,9 @@
-use Rattle.std.proofs.Common.{rules, ◌≡◌, subst, sym}
-use Rattle.dbn_instance.specs.Facts.{net_changes, after_changes, after_action, AllFit}
-use Rattle.dbn_instance.proofs.FactLaws.{net_changes_lead, net_changes_fit}
+use Rattle.std.proofs.Common.{rules, ◌≡◌, ◌<◌, length, subst, sym}
+use Rattle.std.specs.List.{All}
+use Rattle.dbn_instance.specs.Facts.{net_changes, after_changes, after_action, fact_of, AllFit}
+use Rattle.dbn_instance.proofs.FactLaws.{net_changes_lead, net_changes_fit, net_changes_in_range}
+use Rattle.dbn_instance.specs.Shortest.{IsShortest}
+use Rattle.dbn_instance.proofs.ShortestLaws.{net_changes_shortest}
 use Rattle.dbn_instance.proofs.effect.net_changes.Goals as goal
 
 pub returns-clause-leads : goal.returns-clause-leads
@@ -14,3 +17,15 @@ returns-clause-fits g c =
     let exact : c.push_pluses.new.changes ≡ net_changes g.C.Ord.cmp c.args.deletes.now c.args.adds.now c.args.instance.now = search rules in
     subst (λ changes. AllFit g.C.Ord.cmp changes c.args.instance.now) (sym exact)
     (net_changes_fit g.met.C.Ord.total g.met.C.Cell.exact c.args.deletes.now c.args.adds.now c.args.instance.now c.relations-count.ensures.ascending c.requires.deletes c.requires.adds)
+
+pub returns-clause-in_range : goal.returns-clause-in_range
+returns-clause-in_range g c =
+    let exact : c.push_pluses.new.changes ≡ net_changes g.C.Ord.cmp c.args.deletes.now c.args.adds.now c.args.instance.now = search rules in
+    subst (λ changes. All (λ d. (fact_of d).rel < length c.args.instance.now) changes) (sym exact)
+    (net_changes_in_range g.met.C.Ord.total g.met.C.Cell.exact c.args.deletes.now c.args.adds.now c.args.instance.now c.requires.deletes c.requires.adds)
+
+pub returns-clause-shortest : goal.returns-clause-shortest
+returns-clause-shortest g c =
+    let exact : c.push_pluses.new.changes ≡ net_changes g.C.Ord.cmp c.args.deletes.now c.args.adds.now c.args.instance.now = search rules in
+    subst (λ changes. IsShortest g.C.Ord.cmp changes c.args.instance.now) (sym exact)
+    (net_changes_shortest g.met.C.Ord.total g.met.C.Cell.exact c.args.deletes.now c.args.adds.now c.args.instance.now c.relations-count.ensures.ascending c.requires.deletes c.requires.adds)

@@ -1,5 +1,4 @@
 use Rattle.std.proofs.Common.{rules, ◌≡◌, OnOk}
-use Rattle.std.specs.FinMap.{IsAntisymmetric}
 use Rattle.dbn_instance.specs.Facts.{taken_back}
 use Rattle.dbn_instance.proofs.FactLaws.{reverted}
 use Rattle.dbn_instance.proofs.instance.Instance.revert.Goals as goal
