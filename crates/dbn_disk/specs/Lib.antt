@@ -1,5 +1,6 @@
 pub mod Disk
 pub mod Images
+pub mod MemCalls
 pub mod MemState
 pub mod Picked
 pub mod Replays

@@ -46,23 +46,43 @@ impl Disk for ClosedDisk {
 
     ghost sound = { λ faults honest. cc };
 
-    fn len(&mut self) -> Result<u64, Trouble> {
+    fn len(&mut self) -> Result<u64, Trouble>
+        ensures closed { result ≡ Err Trouble.Failed }
+        ensures later { self.old ≤ self.new }
+        ensures rose { Rose self.old self.new }
+    {
         Err(self.fail())
     }
 
-    fn read(&mut self, at: u64, into: &mut [u8]) -> Result<usize, Trouble> {
+    fn read(&mut self, at: u64, into: &mut [u8]) -> Result<usize, Trouble>
+        ensures closed { result ≡ Err Trouble.Failed }
+        ensures later { self.old ≤ self.new }
+        ensures rose { Rose self.old self.new }
+    {
         Err(self.fail())
     }
 
-    fn write_at(&mut self, at: u64, bytes: &[u8]) -> Result<(), Trouble> {
+    fn write_at(&mut self, at: u64, bytes: &[u8]) -> Result<(), Trouble>
+        ensures closed { result ≡ Err Trouble.Failed }
+        ensures later { self.old ≤ self.new }
+        ensures rose { Rose self.old self.new }
+    {
         Err(self.fail())
     }
 
-    fn cut(&mut self, to: u64) -> Result<(), Trouble> {
+    fn cut(&mut self, to: u64) -> Result<(), Trouble>
+        ensures closed { result ≡ Err Trouble.Failed }
+        ensures later { self.old ≤ self.new }
+        ensures rose { Rose self.old self.new }
+    {
         Err(self.fail())
     }
 
-    fn sync(&mut self) -> Result<(), Trouble> {
+    fn sync(&mut self) -> Result<(), Trouble>
+        ensures closed { result ≡ Err Trouble.Failed }
+        ensures later { self.old ≤ self.new }
+        ensures rose { Rose self.old self.new }
+    {
         Err(self.fail())
     }
 }

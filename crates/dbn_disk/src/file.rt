@@ -1,6 +1,6 @@
 //! A file as a disk.
 
-ghost use Rattle.std.specs.Prelude.{◌≡◌, ◌+◌, ◌^◌, ◌≤◌, length};
+ghost use Rattle.std.specs.Prelude.{◌≡◌, ℕ, ◌≤◌};
 ghost use Rattle.std.specs.Io.{ReadsAtMost};
 ghost use Rattle.dbn_io.specs.declared.trouble.Trouble.{Trouble};
 ghost use Rattle.dbn_model.specs.Causes.{Rose};
@@ -9,11 +9,13 @@ use crate::device::Disk;
 use dbn_io::Trouble;
 use std::fs::{self, File, OpenOptions};
 use std::io::{self, ErrorKind};
+use std::marker::Model;
 use std::os::unix::fs::FileExt;
 use std::rt::Files;
 
 /// A named file as a disk. It is opened at the first use and made at the first write; a missing file has length 0. It
-/// tells no bytes, isn't said to be honest, and counts each error as a fault.
+/// tells no bytes, isn't said to be honest, and counts each error as a fault: all that it means is that count. No contract
+/// can say what a file holds, so any answer meets these, and what the calls do is tested.
 #[derive(Drop)]
 pub struct FileDisk<'a, R: Files<File = File>> {
     rt: &'a R,
@@ -23,9 +25,17 @@ pub struct FileDisk<'a, R: Files<File = File>> {
     faults: u64,
 }
 
+impl<'a, R: Files<File = File>> Model for FileDisk<'a, R> {
+    ghost Value = { ℕ };
+
+    ghost view = { λ disk. disk.faults };
+}
+
 impl<'a, R: Files<File = File>> FileDisk<'a, R> {
-    /// A disk over the file `name`, which isn't opened yet.
-    pub fn new(rt: &'a R, name: &'a str) -> FileDisk<'a, R> {
+    /// A disk over the file `name`, which isn't opened yet, with no fault so far.
+    pub fn new(rt: &'a R, name: &'a str) -> FileDisk<'a, R>
+        ensures { result ≡ 0 }
+    {
         FileDisk {
             rt,
             name,
@@ -37,7 +47,7 @@ impl<'a, R: Files<File = File>> FileDisk<'a, R> {
 
     // Opens the file where it isn't open yet; a missing one is made where that is asked for, and stays closed otherwise.
     fn open(&mut self, make: bool) -> io::Result<()>
-        ensures { self.new.faults ≡ self.old.faults }
+        ensures { self.new ≡ self.old }
     {
         if self.file.is_none() {
             let mut how = OpenOptions::new();
@@ -52,7 +62,7 @@ impl<'a, R: Files<File = File>> FileDisk<'a, R> {
     }
 
     fn file_len(&mut self) -> io::Result<u64>
-        ensures { self.new.faults ≡ self.old.faults }
+        ensures { self.new ≡ self.old }
     {
         self.open(false)?;
         match &self.file {
@@ -64,7 +74,7 @@ impl<'a, R: Files<File = File>> FileDisk<'a, R> {
     // As many bytes as there are, at most the buffer.
     fn read_bytes(&mut self, at: u64, into: &mut [u8]) -> io::Result<usize>
         ensures bound { ReadsAtMost result into.new }
-        ensures faults { self.new.faults ≡ self.old.faults }
+        ensures faults { self.new ≡ self.old }
     {
         let left = self.file_len()?.saturating_sub(at);
         let count = into.len().min(left as usize);
@@ -77,7 +87,7 @@ impl<'a, R: Files<File = File>> FileDisk<'a, R> {
     }
 
     fn write_bytes(&mut self, at: u64, bytes: &[u8]) -> io::Result<()>
-        ensures { self.new.faults ≡ self.old.faults }
+        ensures { self.new ≡ self.old }
     {
         self.open(true)?;
         if let Some(file) = &self.file {
@@ -87,7 +97,7 @@ impl<'a, R: Files<File = File>> FileDisk<'a, R> {
     }
 
     fn cut_bytes(&mut self, to: u64) -> io::Result<()>
-        ensures { self.new.faults ≡ self.old.faults }
+        ensures { self.new ≡ self.old }
     {
         let len = self.file_len()?;
         if to < len
@@ -100,7 +110,7 @@ impl<'a, R: Files<File = File>> FileDisk<'a, R> {
 
     // The file, and the folder too at the first time, since the file may have been made.
     fn sync_all(&mut self) -> io::Result<()>
-        ensures { self.new.faults ≡ self.old.faults }
+        ensures { self.new ≡ self.old }
     {
         self.open(false)?;
         if let Some(file) = &self.file {
@@ -116,8 +126,8 @@ impl<'a, R: Files<File = File>> FileDisk<'a, R> {
     // Raises the count of faults, up to the last value of a u64.
     fn fail(&mut self) -> Trouble
         ensures answer { result ≡ Trouble.Failed }
-        ensures later { self.old.faults ≤ self.new.faults }
-        ensures rose { Rose self.old.faults self.new.faults }
+        ensures later { self.old ≤ self.new }
+        ensures rose { Rose self.old self.new }
     {
         self.faults = self.faults.saturating_add(1);
         Trouble::Failed
@@ -136,9 +146,9 @@ fn folder_of(name: &str) -> &str {
 impl<R: Files<File = File>> Disk for FileDisk<'_, R> {
     ghost use Rattle.dbn_disk.specs.Untold.{untold_state};
 
-    ghost state = { λ disk. untold_state disk.faults };
+    ghost state = { λ faults. untold_state faults };
 
-    ghost sound = { λ disk honest. cc };
+    ghost sound = { λ faults honest. cc };
 
     fn len(&mut self) -> Result<u64, Trouble> {
         match self.file_len() {

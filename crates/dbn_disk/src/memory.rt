@@ -1,8 +1,14 @@
 //! A disk in memory.
 
-ghost use Rattle.std.specs.Prelude.{◌≡◌, ℕ, List, [], ◌+◌, ◌^◌, ◌≤◌, length, take, IfOk, OnOk, IsErrOf, IsTrue, vec_len, vec_capacity};
-ghost use Rattle.dbn_io.specs.Memory.{Plan, after_call, fails_next};
-ghost use Rattle.dbn_disk.specs.MemState.{MemState, IsMemDisk, fresh, disk_state};
+ghost use Rattle.std.specs.Prelude.{◌≡◌, ℕ, List, [], ◌∷◌, ◌++◌, ◌+◌, ◌^◌, ◌≤◌, cond, not, length, take, Some, IfOk, OnOk, IsErrOf, IsTrue, vec_len, vec_capacity};
+ghost use Rattle.std.specs.Io.{ReadsAtMost};
+ghost use Rattle.std.specs.Option.{option_map};
+ghost use Rattle.dbn_io.specs.Memory.{fails_next};
+ghost use Rattle.dbn_io.specs.declared.trouble.Trouble.{Trouble};
+ghost use Rattle.dbn_model.specs.Causes.{Rose};
+ghost use Rattle.dbn_disk.specs.Disk.{ReadsFrom, written, Keeps, Torn, Cut, Follows, Only, Still, Elapses};
+ghost use Rattle.dbn_disk.specs.MemCalls.{Counted};
+ghost use Rattle.dbn_disk.specs.MemState.{MemState, IsMemDisk, fresh, disk_state, then_sync};
 ghost use Rattle.dbn_disk.specs.Images.{IsImage, moment_at};
 ghost use Rattle.dbn_disk.specs.Picked.{image_of, free_bytes};
 
@@ -82,12 +88,29 @@ impl Disk for MemDisk {
 
     ghost sound = { λ disk honest. is_sound disk };
 
-    fn len(&mut self) -> Result<u64, Trouble> {
+    fn len(&mut self) -> Result<u64, Trouble>
+        ensures length { (b : List ℕ) → (disk_state self.old).content ≡ Some b → IfOk result (λ count. count ≡ length b) }
+        ensures same { (disk_state self.new).content ≡ (disk_state self.old).content }
+        ensures still { IsTrue (disk_state self.old).honest → Still (disk_state self.old) (disk_state self.new) }
+        ensures keeps { Keeps (disk_state self.old) (disk_state self.new) }
+        ensures failed { IsErrOf result Trouble.Failed → Rose (disk_state self.old).faults (disk_state self.new).faults }
+        ensures counted { Counted self.old self.new self.old.calls result }
+        ensures memory { IsErrOf result Trouble.Memory → ⊥ }
+    {
         outcome(!self.plan.fails_next())?;
         Ok(self.held.len() as u64)
     }
 
-    fn read(&mut self, at: u64, into: &mut [u8]) -> Result<usize, Trouble> {
+    fn read(&mut self, at: u64, into: &mut [u8]) -> Result<usize, Trouble>
+        ensures bound { ReadsAtMost result into.new }
+        ensures bytes { (b : List ℕ) → (disk_state self.old).content ≡ Some b → IfOk result (λ count. ReadsFrom at count into.new b) }
+        ensures same { (disk_state self.new).content ≡ (disk_state self.old).content }
+        ensures still { IsTrue (disk_state self.old).honest → Still (disk_state self.old) (disk_state self.new) }
+        ensures keeps { Keeps (disk_state self.old) (disk_state self.new) }
+        ensures failed { IsErrOf result Trouble.Failed → Rose (disk_state self.old).faults (disk_state self.new).faults }
+        ensures counted { Counted self.old self.new self.old.calls result }
+        ensures memory { IsErrOf result Trouble.Memory → ⊥ }
+    {
         outcome(!self.plan.fails_next())?;
         let from = self.held.len().min(at as usize);
         let (_, left) = self.held.as_slice().split_at(from);
@@ -96,7 +119,17 @@ impl Disk for MemDisk {
         Ok(count)
     }
 
-    fn write_at(&mut self, at: u64, bytes: &[u8]) -> Result<(), Trouble> {
+    fn write_at(&mut self, at: u64, bytes: &[u8]) -> Result<(), Trouble>
+        requires { at + length bytes.now ≤ 2 ^ 62 }
+        ensures value { OnOk result ((disk_state self.new).content ≡ option_map (written at bytes.now) (disk_state self.old).content) }
+        ensures memory { IsErrOf result Trouble.Memory → (disk_state self.new).content ≡ (disk_state self.old).content }
+        ensures crash { IsTrue (disk_state self.old).honest → Follows (Torn at (length bytes.now)) (disk_state self.old).image (disk_state self.new).image }
+        ensures time { IsTrue (disk_state self.old).honest → Elapses (disk_state self.old) (disk_state self.new) }
+        ensures keeps { Keeps (disk_state self.old) (disk_state self.new) }
+        ensures failed { IsErrOf result Trouble.Failed → Rose (disk_state self.old).faults (disk_state self.new).faults }
+        ensures counted { (IsErrOf result Trouble.Memory → ⊥) → Counted self.old self.new (self.old.calls ++ Call.Write at bytes.now (not (fails_next self.old.plan)) ∷ []) result }
+        ensures unchanged { IsErrOf result Trouble.Memory → self.new ≡ self.old }
+    {
         let Ok(copy) = prepare(
             self.alloc,
             &mut self.held,
@@ -118,7 +151,16 @@ impl Disk for MemDisk {
         outcome(done)
     }
 
-    fn cut(&mut self, to: u64) -> Result<(), Trouble> {
+    fn cut(&mut self, to: u64) -> Result<(), Trouble>
+        ensures value { OnOk result ((disk_state self.new).content ≡ option_map (take to) (disk_state self.old).content) }
+        ensures memory { IsErrOf result Trouble.Memory → (disk_state self.new).content ≡ (disk_state self.old).content }
+        ensures crash { IsTrue (disk_state self.old).honest → Follows (Cut to) (disk_state self.old).image (disk_state self.new).image }
+        ensures time { IsTrue (disk_state self.old).honest → Elapses (disk_state self.old) (disk_state self.new) }
+        ensures keeps { Keeps (disk_state self.old) (disk_state self.new) }
+        ensures failed { IsErrOf result Trouble.Failed → Rose (disk_state self.old).faults (disk_state self.new).faults }
+        ensures counted { (IsErrOf result Trouble.Memory → ⊥) → Counted self.old self.new (self.old.calls ++ Call.Cut to (not (fails_next self.old.plan)) ∷ []) result }
+        ensures unchanged { IsErrOf result Trouble.Memory → self.new ≡ self.old }
+    {
         let Ok(()) = self.calls.reserve(2) else {
             return Err(Trouble::Memory);
         };
@@ -129,7 +171,16 @@ impl Disk for MemDisk {
         outcome(done)
     }
 
-    fn sync(&mut self) -> Result<(), Trouble> {
+    fn sync(&mut self) -> Result<(), Trouble>
+        ensures durable { OnOk result ((b : List ℕ) → IsTrue (disk_state self.old).honest → (disk_state self.old).content ≡ Some b → Only b (disk_state self.new).image) }
+        ensures same { (disk_state self.new).content ≡ (disk_state self.old).content }
+        ensures crash { IsTrue (disk_state self.old).honest → (c : List ℕ) → (disk_state self.new).image c → (disk_state self.old).image c }
+        ensures time { IsTrue (disk_state self.old).honest → Elapses (disk_state self.old) (disk_state self.new) }
+        ensures keeps { Keeps (disk_state self.old) (disk_state self.new) }
+        ensures failed { IsErrOf result Trouble.Failed → Rose (disk_state self.old).faults (disk_state self.new).faults }
+        ensures memory { IsErrOf result Trouble.Memory → ⊥ }
+        ensures counted { Counted self.old self.new (cond (fails_next self.old.plan) self.old.calls (then_sync self.old.calls)) result }
+    {
         outcome(!self.plan.fails_next())?;
         if self.pending {
             note(&mut self.calls, Call::Sync);

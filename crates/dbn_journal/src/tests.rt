@@ -1,6 +1,6 @@
 //! What no clause says: that calls succeed, and the images of a crash byte by byte.
 
-ghost use Rattle.std.specs.Prelude.{◌≡◌, [], ◌∷◌, IfOk};
+ghost use Rattle.std.specs.Prelude.{◌≡◌, ◌+◌, ◌≤◌, [], ◌∷◌, ◌++◌, length, IfOk};
 ghost use Rattle.dbn_disk.specs.MemState.{fresh};
 
 use crate::{Gate, append, close_first, fill, gate_at, open_first};
@@ -8,6 +8,24 @@ use dbn_disk::{Disk, ImagePick, MemDisk};
 use dbn_io::{Bytes, Calls, Trouble};
 use std::alloc::{AllocError, Global};
 use std::test::Fail;
+
+// A store of a net with one token, up to the gate at place 82: an open first byte, the mark, the generation and two more
+// numbers, the length of the net, and the net.
+const FRONT: &[u8; 82] =
+    b"\xdbDBN1\0\0\0\0\0\0\0\x01\0\0\0\0\0\0\0\0\0\0\0\0\0\0\0\0\0\0\0\x31(place P)\n(transition go (in P (1)))\n(token P 1)\n";
+
+// The record with a body of two zeros, and the gate behind it.
+const RECORD: &[u8; 8] = b"\xdb\0\0\0\x02\0\0\0";
+
+// The front of the store, and these bytes behind it.
+fn file(alloc: Global, behind: &[u8]) -> Result<Vec<u8>, AllocError>
+    ensures bytes { IfOk result (λ bytes. bytes.items ≡ FRONT.now ++ behind.now) }
+    ensures len { IfOk result (λ bytes. length bytes.items ≡ 82 + length behind.now) }
+{
+    let mut bytes = FRONT.as_slice().to_vec(alloc)?;
+    bytes.extend_from_slice(behind)?;
+    Ok(bytes)
+}
 
 fn memory(alloc: Global, bytes: &[u8]) -> Result<MemDisk, AllocError>
     ensures { IfOk result (λ disk. disk ≡ fresh bytes.now []) }
@@ -17,119 +35,227 @@ fn memory(alloc: Global, bytes: &[u8]) -> Result<MemDisk, AllocError>
     Ok(disk)
 }
 
-// Six images a moment: of the least and of the greatest length, with loose bytes 00, db and 17.
-fn pick(alloc: Global, number: u64) -> Result<ImagePick, AllocError> {
-    let byte = match number / 2 % 3 {
-        0 => 0x00,
-        1 => 0xDB,
-        _ => 0x17,
-    };
-    let loose = Bytes::from_vec([byte; 16].to_vec(alloc)?);
-    let len = if number % 2 == 0 { 0 } else { 99 };
-    Ok(ImagePick {
-        moment: number / 6,
-        len,
-        loose,
-    })
+// The image of this moment whose length is nearest to `len`, with this byte at each free place.
+fn image(
+    alloc: Global,
+    disk: &MemDisk,
+    moment: u64,
+    loose: u8,
+    len: u64,
+) -> Result<MemDisk, AllocError> {
+    let loose = Bytes::from_vec([loose; 99].to_vec(alloc)?);
+    disk.image(alloc, &ImagePick { moment, len, loose })
 }
 
-// Whether the record with the body `ab` stands at the start, where no record is torn.
-fn has_record(alloc: Global, disk: &mut MemDisk) -> Option<bool> {
-    match gate_at(alloc, disk, 0) {
-        Ok(Gate::Shut) => Some(false),
+// What is found at the gate behind the front of the store.
+#[derive(Clone, Copy, Debug, PartialEq)]
+enum AtGate {
+    Shut,
+    Record,
+    Torn,
+    Other,
+}
+
+fn at_gate(alloc: Global, disk: &mut MemDisk) -> AtGate {
+    let mut front = [0; 82];
+    if disk.read(0, &mut front) != Ok(82) || front.as_slice() != FRONT.as_slice() {
+        return AtGate::Other;
+    }
+    match gate_at(alloc, disk, 82) {
+        Ok(Gate::Shut) => AtGate::Shut,
         Ok(Gate::Held { body, after }) => match gate_at(alloc, disk, after) {
-            Ok(Gate::Shut) => Some(body.as_slice() == b"ab".as_slice()),
-            _ => None,
+            Ok(Gate::Shut) if after == 89 && body.as_slice() == [0, 0].as_slice() => AtGate::Record,
+            _ => AtGate::Other,
         },
-        _ => None,
+        Ok(Gate::Torn) => AtGate::Torn,
+        Err(_) => AtGate::Other,
     }
-}
-
-// A file with a shut gate, to which a record was appended.
-fn with_record(alloc: Global) -> Result<(MemDisk, Result<u64, Trouble>), AllocError> {
-    let mut disk = memory(alloc, &[0])?;
-    let end = append(alloc, &mut disk, 0, b"ab");
-    Ok((disk, end))
-}
-
-#[test]
-fn each_image_of_an_append_is_without_it_or_with_it(rt: HostRuntime) -> Result<(), Fail> {
-    let alloc = rt.alloc();
-    let (disk, end) = with_record(alloc)?;
-    assert_eq!(rt; end, Ok(7));
-    for number in 0..30 {
-        let mut image = disk.image(alloc, &pick(alloc, number)?)?;
-        let has = has_record(alloc, &mut image);
-        assert!(rt; has.is_some());
-        assert!(rt; number < 24 || has == Some(true));
-    }
-    Ok(())
-}
-
-const OLD: [u8; 2] = [0xDB, b'x'];
-
-const NEW: [u8; 5] = [0xDB, b'n', b'e', b'w', 0];
-
-// A file that was open, made anew.
-fn made(alloc: Global) -> Result<(MemDisk, Result<(), Trouble>), AllocError> {
-    let mut disk = memory(alloc, &OLD)?;
-    let answer = make(&mut disk);
-    Ok((disk, answer))
-}
-
-fn make(disk: &mut MemDisk) -> Result<(), Trouble>
-    requires { disk.old ≡ fresh (219 ∷ 120 ∷ []) [] }
-{
-    close_first(disk)?;
-    fill(disk, b"new\0")?;
-    open_first(disk)?;
-    Ok(())
-}
-
-// Whether an image is no open file, or one of these bytes.
-fn is_shut_or(disk: &mut MemDisk, bytes: &[u8]) -> bool {
-    let mut buffer = [0; 16];
-    let count = disk.read(0, &mut buffer).unwrap_or(16);
-    count < 2 || buffer[0] != 0xDB || &buffer[..count] == bytes
-}
-
-#[test]
-fn no_old_content_comes_back_while_a_file_is_made(rt: HostRuntime) -> Result<(), Fail> {
-    let alloc = rt.alloc();
-    let (disk, answer) = made(alloc)?;
-    assert_eq!(rt; answer, Ok(()));
-    for number in 0..48 {
-        let mut image = disk.image(alloc, &pick(alloc, number)?)?;
-        let wanted = if number < 12 {
-            OLD.as_slice()
-        } else {
-            NEW.as_slice()
-        };
-        assert!(rt; is_shut_or(&mut image, wanted));
-        assert!(rt; number < 42 || image.len() == Ok(5));
-    }
-    Ok(())
 }
 
 #[test]
 fn gates_are_told_apart(rt: HostRuntime) -> Result<(), Fail> {
     let alloc = rt.alloc();
-    let rows: [(&[u8], bool); 6] = [
-        (b"", false),
-        (b"\x17", true),
-        (b"\xdb\0\0", false),
-        (b"\xdb\0\0\0\x02ab", false),
-        (b"\x00\xdb", true),
-        (b"\xdb\xff\xff\xff\xffab", false),
+    let rows: [(&[u8], AtGate); 12] = [
+        (b"\xdb\0\0\0\x02\0\0\0", AtGate::Record),
+        (b"\xdb\0\0\0\x02\0\0\x17\xdb", AtGate::Record),
+        (b"\xdb\0\0\0\x02\0\0", AtGate::Torn),
+        (b"\xdb\0\0\0\x02\0", AtGate::Torn),
+        (b"\xdb\0\0", AtGate::Torn),
+        (b"\xdb", AtGate::Torn),
+        (b"", AtGate::Torn),
+        (b"\xdb\xff\xff\xff\xff\0\0\0", AtGate::Torn),
+        (b"\0", AtGate::Shut),
+        (b"\x17", AtGate::Shut),
+        (b"\x17\0\0\0\x02\0\0\0", AtGate::Shut),
+        (b"\x17\xdb\xdb\xdb", AtGate::Shut),
     ];
-    for (bytes, is_shut) in rows {
-        let mut disk = memory(alloc, bytes)?;
-        let is_right = match gate_at(alloc, &mut disk, 0) {
-            Ok(Gate::Shut) => is_shut,
-            Ok(Gate::Torn) => !is_shut,
-            _ => false,
-        };
-        assert!(rt; is_right);
+    for (behind, wanted) in rows {
+        let mut disk = memory(alloc, file(alloc, behind)?.as_slice())?;
+        assert_eq!(rt; at_gate(alloc, &mut disk), wanted);
+    }
+    Ok(())
+}
+
+// The store with a shut gate, to which the record was appended.
+fn with_record(alloc: Global) -> Result<(MemDisk, Result<u64, Trouble>), AllocError> {
+    let bytes = file(alloc, &[0])?;
+    let mut disk = memory(alloc, bytes.as_slice())?;
+    let end = append(alloc, &mut disk, 82, &[0, 0]);
+    Ok((disk, end))
+}
+
+// Whether the shortest and the longest image of this moment, with this byte at each free place, have these lengths, and
+// this is found at the gate of both.
+fn both_find(
+    alloc: Global,
+    disk: &MemDisk,
+    moment: u64,
+    loose: u8,
+    lens: (u64, u64),
+    wanted: AtGate,
+) -> Result<bool, AllocError> {
+    let mut short = image(alloc, disk, moment, loose, 0)?;
+    let mut long = image(alloc, disk, moment, loose, 99)?;
+    Ok(
+        short.len() == Ok(lens.0)
+            && long.len() == Ok(lens.1)
+            && at_gate(alloc, &mut short) == wanted
+            && at_gate(alloc, &mut long) == wanted,
+    )
+}
+
+// A crash at each moment: the least and the greatest length that it may leave, and what is found at the gate with loose
+// bytes 00, db and 17.
+#[test]
+fn each_image_of_an_append_is_without_the_record_or_with_it(rt: HostRuntime) -> Result<(), Fail> {
+    let alloc = rt.alloc();
+    let (disk, end) = with_record(alloc)?;
+    assert_eq!(rt; end, Ok(89));
+    let rows: [(u64, (u64, u64), AtGate, AtGate, AtGate); 5] = [
+        (0, (83, 83), AtGate::Shut, AtGate::Shut, AtGate::Shut),
+        (1, (83, 90), AtGate::Shut, AtGate::Shut, AtGate::Shut),
+        (2, (90, 90), AtGate::Shut, AtGate::Shut, AtGate::Shut),
+        (3, (90, 90), AtGate::Shut, AtGate::Record, AtGate::Shut),
+        (4, (90, 90), AtGate::Record, AtGate::Record, AtGate::Record),
+    ];
+    for (moment, lens, zero, open, other) in rows {
+        assert!(rt; both_find(alloc, &disk, moment, 0x00, lens, zero)?);
+        assert!(rt; both_find(alloc, &disk, moment, 0xDB, lens, open)?);
+        assert!(rt; both_find(alloc, &disk, moment, 0x17, lens, other)?);
+    }
+    Ok(())
+}
+
+#[test]
+fn the_gate_may_have_any_byte_inside_its_write(rt: HostRuntime) -> Result<(), Fail> {
+    let alloc = rt.alloc();
+    let (disk, _) = with_record(alloc)?;
+    for loose in [0x00, 0xDB, 0x17] {
+        let mut gate = [0; 1];
+        let mut crashed = image(alloc, &disk, 3, loose, 90)?;
+        assert_eq!(rt; crashed.read(82, &mut gate), Ok(1));
+        assert_eq!(rt; gate[0], loose);
+    }
+    Ok(())
+}
+
+// The store with a shut gate, made over a file with these bytes.
+fn made(alloc: Global, old: &[u8]) -> Result<(MemDisk, Result<(), Trouble>), AllocError> {
+    let mut disk = memory(alloc, old)?;
+    let bytes = file(alloc, &[0])?;
+    let answer = make(&mut disk, &bytes.as_slice()[1..]);
+    Ok((disk, answer))
+}
+
+fn make(disk: &mut MemDisk, rest: &[u8]) -> Result<(), Trouble>
+    requires unused { disk.old ≡ fresh disk.old.first [] }
+    requires room { length rest.now ≤ 99 }
+{
+    close_first(disk)?;
+    fill(disk, rest)?;
+    open_first(disk)?;
+    Ok(())
+}
+
+// What a file stands for; one whose first byte is shut, or has nothing behind it, is no store.
+#[derive(Clone, Copy, Debug, PartialEq)]
+enum Left {
+    NoStore,
+    Old,
+    New,
+    Other,
+}
+
+fn stands_for(alloc: Global, disk: &mut MemDisk, old: &[u8]) -> Result<Left, AllocError> {
+    let mut buffer = [0; 99];
+    let count = disk.read(0, &mut buffer).unwrap_or(0);
+    let bytes = &buffer[..count];
+    let new = file(alloc, &[0])?;
+    if count < 2 || bytes[0] != 0xDB {
+        Ok(Left::NoStore)
+    } else if bytes == old {
+        Ok(Left::Old)
+    } else if bytes == new.as_slice() {
+        Ok(Left::New)
+    } else {
+        Ok(Left::Other)
+    }
+}
+
+// Whether the shortest and the longest image of this moment, with this byte at each free place, both stand for this.
+fn both_leave(
+    alloc: Global,
+    disk: &MemDisk,
+    moment: u64,
+    loose: u8,
+    old: &[u8],
+    wanted: Left,
+) -> Result<bool, AllocError> {
+    let mut short = image(alloc, disk, moment, loose, 0)?;
+    let mut long = image(alloc, disk, moment, loose, 99)?;
+    Ok(
+        stands_for(alloc, &mut short, old)? == wanted
+            && stands_for(alloc, &mut long, old)? == wanted,
+    )
+}
+
+// A crash at each moment while a store is made over an open one, with loose bytes 00, db and 17.
+#[test]
+fn no_old_content_comes_back_while_a_file_is_made(rt: HostRuntime) -> Result<(), Fail> {
+    let alloc = rt.alloc();
+    let old = file(alloc, RECORD.as_slice())?;
+    let (disk, answer) = made(alloc, old.as_slice())?;
+    assert_eq!(rt; answer, Ok(()));
+    let rows: [(u64, Left, Left, Left); 8] = [
+        (0, Left::Old, Left::Old, Left::Old),
+        (1, Left::NoStore, Left::Old, Left::NoStore),
+        (2, Left::NoStore, Left::NoStore, Left::NoStore),
+        (3, Left::NoStore, Left::NoStore, Left::NoStore),
+        (4, Left::NoStore, Left::NoStore, Left::NoStore),
+        (5, Left::NoStore, Left::NoStore, Left::NoStore),
+        (6, Left::NoStore, Left::New, Left::NoStore),
+        (7, Left::New, Left::New, Left::New),
+    ];
+    for (moment, zero, open, other) in rows {
+        assert!(rt; both_leave(alloc, &disk, moment, 0x00, old.as_slice(), zero)?);
+        assert!(rt; both_leave(alloc, &disk, moment, 0xDB, old.as_slice(), open)?);
+        assert!(rt; both_leave(alloc, &disk, moment, 0x17, old.as_slice(), other)?);
+    }
+    Ok(())
+}
+
+// The same where there was no file.
+#[test]
+fn a_file_is_made_where_there_was_none(rt: HostRuntime) -> Result<(), Fail> {
+    let alloc = rt.alloc();
+    let (disk, answer) = made(alloc, &[])?;
+    assert_eq!(rt; answer, Ok(()));
+    for number in 0..24 {
+        let moment = number / 3;
+        let loose = [0x00, 0xDB, 0x17][number as usize % 3];
+        let is_open = moment == 7 || moment == 6 && loose == 0xDB;
+        let wanted = if is_open { Left::New } else { Left::NoStore };
+        assert!(rt; both_leave(alloc, &disk, moment, loose, &[], wanted)?);
     }
     Ok(())
 }

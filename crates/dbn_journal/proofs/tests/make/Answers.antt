@@ -1,4 +1,4 @@
-use Rattle.std.proofs.Common.{◌≡◌, List, [], ◌∷◌, ℕ, refl, sym, subst, ◌∙◌}
+use Rattle.std.proofs.Common.{◌≡◌, refl, sym, subst, ◌∙◌}
 use Rattle.dbn_disk.specs.Images.{IsImage}
 use Rattle.dbn_disk.specs.MemState.{present}
 use Rattle.dbn_disk.specs.SoundLaws.{is_sound, present_image}
@@ -8,8 +8,8 @@ use Rattle.dbn_journal.proofs.tests.make.Goals as goal
 
 pub close_first-requires : goal.close_first-requires
 close_first-requires c b told honest shut x image =
-    let bytes : List ℕ = 219 ∷ 120 ∷ [] in
-    subst (IsShutAt 0) (sym (fresh_only c.args.disk.now bytes c.requires x image ∙ fresh_held c.args.disk.now bytes b c.requires (same_bytes _ b told))) shut
+    let bytes = c.args.disk.now.first in
+    subst (IsShutAt 0) (sym (fresh_only c.args.disk.now bytes c.requires.unused x image ∙ fresh_held c.args.disk.now bytes b c.requires.unused (same_bytes _ b told))) shut
 
 pub fill-requires-clause-shut : goal.fill-requires-clause-shut
 fill-requires-clause-shut c b told honest x image = c.in_ok-close_first.ensures.shut (present c.args.disk.now).held refl honest x image
