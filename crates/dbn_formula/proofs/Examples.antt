@@ -1,5 +1,5 @@
 -- The definitions, computed on small formulas.
-use Rattle.std.proofs.Common.{◌≡◌, ℕ, true, false, [], ◌∷◌, refl, Some, None}
+use Rattle.std.proofs.Common.{◌≡◌, ℕ, true, false, [], ◌∷◌, refl, ap, ◌∙◌, Some, None}
 use Rattle.std.specs.Prelude.{pos}
 use Rattle.dbn_value.specs.declared.value.Value.{Value}
 use Rattle.dbn_value.specs.declared.value.Value.TheVariants.{Int, Text, Id}
@@ -17,7 +17,7 @@ use Rattle.dbn_formula.specs.Free.{free}
 use Rattle.dbn_formula.specs.Size.{size}
 use Rattle.dbn_formula.specs.Typing.{Shapes, type_fault}
 use Rattle.dbn_formula.specs.Apart.{renamed}
-use Rattle.dbn_formula.specs.Safe.{safe}
+use Rattle.dbn_formula.specs.Safe.{safe, sentence_safe}
 use Rattle.dbn_formula.proofs.HoldsLaws.{holds_laws}
 use Rattle.dbn_formula.proofs.ConstantsLaws.{constants_laws}
 use Rattle.dbn_formula.proofs.NormalLaws.{normal_laws}
@@ -121,6 +121,15 @@ bob = Text (66 ∷ 111 ∷ 98 ∷ [])
 idle_answers : answers idle ((e, col.Text) ∷ []) (((ann ∷ []) ∷ (bob ∷ []) ∷ []) ∷ [] ∷ ((Id 0 ∷ ann ∷ []) ∷ []) ∷ []) ≡ (bob ∷ []) ∷ []
 idle_answers = simp (holds_laws, constants_laws) refl
 
+idle_free : free idle ≡ e ∷ []
+idle_free = simp occurrences_laws refl
+
+idle_typed : type_fault ((col.Text ∷ []) ∷ (col.Id ∷ col.Text ∷ []) ∷ (col.Id ∷ col.Text ∷ []) ∷ []) idle ((e, col.Text) ∷ []) ≡ None
+idle_typed = simp (typing_laws, occurrences_laws) refl
+
+idle_safe : safe idle [] ≡ true
+idle_safe = simp (safe_laws, occurrences_laws) refl
+
 abbrev busy_vars : TypedVars
 busy_vars = (t, col.Id) ∷ (u, col.Id) ∷ (e, col.Text) ∷ []
 
@@ -146,6 +155,12 @@ busy_size = simp size_laws refl
 twice_safe : safe twice [] ≡ true
 twice_safe = simp (safe_laws, occurrences_laws) refl
 
+busy_free : free busy ≡ []
+busy_free = simp occurrences_laws refl
+
+busy_typed : type_fault ((col.Text ∷ []) ∷ (col.Id ∷ col.Text ∷ []) ∷ (col.Id ∷ col.Text ∷ []) ∷ []) busy [] ≡ None
+busy_typed = simp (typing_laws, occurrences_laws) refl
+
 busy_lost : answers busy [] ([] ∷ [] ∷ ((Id 0 ∷ ann ∷ []) ∷ (Id 1 ∷ ann ∷ []) ∷ []) ∷ []) ≡ []
 busy_lost = simp (holds_laws, constants_laws) refl
 
@@ -157,6 +172,25 @@ busy_kept = simp (holds_laws, constants_laws) refl
 -- exists x (not (R x))
 unsafe_denial : safe (Exists ((x, col.Int) ∷ []) (Not (Atom 0 (term.Var x ∷ [])))) [] ≡ false
 unsafe_denial = simp (safe_laws, occurrences_laws) refl
+
+-- nor is it as a sentence: its denial is tested, renamed apart
+abbrev lone : Formula
+lone = Exists ((x, col.Int) ∷ []) (Not (Atom 0 (term.Var x ∷ [])))
+
+lone_denied : normal (Not lone) ≡ Not lone
+lone_denied = simp normal_laws refl
+
+abbrev lone_apart : Formula
+lone_apart = Not (Exists ((named 120 1, col.Int) ∷ []) (Not (Atom 0 (term.Var (named 120 1) ∷ []))))
+
+lone_renamed : renamed (Not lone) ≡ lone_apart
+lone_renamed = simp apart_laws refl
+
+lone_tested : safe lone_apart [] ≡ false
+lone_tested = simp (safe_laws, occurrences_laws) refl
+
+lone_refused : sentence_safe lone ≡ false
+lone_refused = ap (λ f. safe (renamed f) []) lone_denied ∙ ap (λ f. safe f []) lone_renamed ∙ lone_tested
 
 -- an equation between two variables of which none is bound
 unsafe_equation : safe (Test cmp.Eq (term.Var x) (term.Var y)) [] ≡ false

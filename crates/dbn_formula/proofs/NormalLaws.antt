@@ -1,5 +1,5 @@
 -- The normal form, variant by variant.
-use Rattle.std.proofs.Common.{cond, not, ◌≡◌, ℕ, Bool, true, false, List, [], ◌∷◌, map, ap, ◌∙◌}
+use Rattle.std.proofs.Common.{cond, not, ◌≡◌, ℕ, Bool, true, false, List, [], ◌∷◌, map, ap, sym, ◌∙◌}
 use Rattle.dbn_formula.specs.Normal.{denied_cmp, normal_step, normal_at}
 use Rattle.dbn_formula.proofs.Maps.{map-map}
 use Rattle.dbn_value.specs.declared.term.Term.{Term}
@@ -120,3 +120,13 @@ either_forall vars f true = kept_forall vars f
 either_forall vars f false = denied_forall vars f
 
 pub ruleset either_laws = (either_atom, either_test, either_and, either_or, either_not, either_implies, either_exists, either_forall)
+
+-- ---- the parts of a conjunction, joined as the code joins them
+
+pub joined_and : (fs gs : List Formula) (keep : Bool) → gs ≡ map (λ f. normal_at f keep) fs → cond keep (And gs) (Or gs) ≡ normal_at (And fs) keep
+joined_and fs gs true e = ap And e ∙ sym (kept_and fs)
+joined_and fs gs false e = ap Or e ∙ sym (denied_and fs)
+
+pub joined_or : (fs gs : List Formula) (keep : Bool) → gs ≡ map (λ f. normal_at f keep) fs → cond (not keep) (And gs) (Or gs) ≡ normal_at (Or fs) keep
+joined_or fs gs true e = ap Or e ∙ sym (kept_or fs)
+joined_or fs gs false e = ap And e ∙ sym (denied_or fs)

@@ -19,8 +19,8 @@ weight_step (layer.And parts) = sum_by (λ n. n) parts + length parts + 5
 weight_step (layer.Or parts) = sum_by (λ n. n) parts + 5
 weight_step (layer.Not part) = part + 1
 weight_step (layer.Implies left right) = left + right + 1
-weight_step (layer.Exists vars body) = body + length vars + 2
-weight_step (layer.Forall vars body) = body + length vars + 2
+weight_step (layer.Exists vars body) = body + length vars + 3
+weight_step (layer.Forall vars body) = body + length vars + 3
 
 unfoldable pub weight : Formula → ℕ
 weight f = fold-Formula ℕ weight_step f
@@ -59,11 +59,11 @@ pub weight_implies : (f g : Formula) → weight (Implies f g) ≡ weight f + wei
 unfolding weight
 weight_implies f g = fold_implies ℕ weight_step f g
 
-pub weight_exists : (vars : TypedVars) (f : Formula) → weight (Exists vars f) ≡ weight f + length vars + 2
+pub weight_exists : (vars : TypedVars) (f : Formula) → weight (Exists vars f) ≡ weight f + length vars + 3
 unfolding weight
 weight_exists vars f = fold_exists ℕ weight_step vars f
 
-pub weight_forall : (vars : TypedVars) (f : Formula) → weight (Forall vars f) ≡ weight f + length vars + 2
+pub weight_forall : (vars : TypedVars) (f : Formula) → weight (Forall vars f) ≡ weight f + length vars + 3
 unfolding weight
 weight_forall vars f = fold_forall ℕ weight_step vars f
 

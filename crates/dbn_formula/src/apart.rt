@@ -164,28 +164,19 @@ fn renamed_at<'x>(
             Ok(Formula::Atom { rel: *rel, terms })
         }
         Formula::Test { cmp, left, right } => {
+            let cmp = *cmp;
             let left = renamed_term(alloc, left, names)?;
             let right = renamed_term(alloc, right, names)?;
-            Ok(Formula::Test {
-                cmp: *cmp,
-                left,
-                right,
-            })
+            Ok(Formula::Test { cmp, left, right })
         }
-        Formula::And(parts) => Ok(Formula::And(each_renamed(
-            alloc,
-            &*used,
-            parts.as_slice(),
-            &*names,
-            last,
-        )?)),
-        Formula::Or(parts) => Ok(Formula::Or(each_renamed(
-            alloc,
-            &*used,
-            parts.as_slice(),
-            &*names,
-            last,
-        )?)),
+        Formula::And(parts) => {
+            let parts = each_renamed(alloc, &*used, parts.as_slice(), &*names, last)?;
+            Ok(Formula::And(parts))
+        }
+        Formula::Or(parts) => {
+            let parts = each_renamed(alloc, &*used, parts.as_slice(), &*names, last)?;
+            Ok(Formula::Or(parts))
+        }
         Formula::Not(part) => {
             let part = renamed_at(alloc, &*used, part.get(), &*names, last)?;
             Ok(Formula::Not(Boxed::new(alloc, part)?))
@@ -196,38 +187,42 @@ fn renamed_at<'x>(
             Ok(Formula::Implies(Boxed::new(alloc, left)?, Boxed::new(alloc, right)?))
         }
         Formula::Exists { vars, body } => {
-            let mut fresh = Items::new(alloc);
-            let body = renamed_under(
-                alloc,
-                &*used,
-                vars.as_slice(),
-                body.get(),
-                &*names,
-                last,
-                &mut fresh,
-            )?;
-            Ok(Formula::Exists {
-                vars: fresh,
-                body: Boxed::new(alloc, body)?,
-            })
+            let (vars, body) = requantified(alloc, &*used, vars, body.get(), &*names, last)?;
+            Ok(Formula::Exists { vars, body })
         }
         Formula::Forall { vars, body } => {
-            let mut fresh = Items::new(alloc);
-            let body = renamed_under(
-                alloc,
-                &*used,
-                vars.as_slice(),
-                body.get(),
-                &*names,
-                last,
-                &mut fresh,
-            )?;
-            Ok(Formula::Forall {
-                vars: fresh,
-                body: Boxed::new(alloc, body)?,
-            })
+            let (vars, body) = requantified(alloc, &*used, vars, body.get(), &*names, last)?;
+            Ok(Formula::Forall { vars, body })
         }
     }
+}
+
+/// The variables of a quantifier with their new marks, and the renamed formula under it.
+#[cycle(renamed)]
+fn requantified<'x>(
+    alloc: Global,
+    used: &'x [u64],
+    vars: &'x TypedVars,
+    body: &'x Formula,
+    names: &'x Names<'x>,
+    last: &mut u64,
+) -> Result<(TypedVars, Boxed<Formula>), AllocError>
+    requires { ascending nat_cmp used.now ≡ used.now }
+    ensures vars { IfOk result (λ made. made.0 ≡ fresh used.now vars.now last.old) }
+    ensures body { IfOk result (λ made. made.1 ≡ renamed_at used.now body.now (opened used.now vars.now last.old (named names.now)) (last_mark used.now vars.now last.old)) }
+    ensures last { OnOk result (last.new ≡ last_at used.now body.now (opened used.now vars.now last.old (named names.now)) (last_mark used.now vars.now last.old)) }
+{
+    let mut made = Items::new(alloc);
+    let body = renamed_under(
+        alloc,
+        &*used,
+        vars.as_slice(),
+        &*body,
+        &*names,
+        last,
+        &mut made,
+    )?;
+    Ok((made, Boxed::new(alloc, body)?))
 }
 
 #[cycle(renamed)]

@@ -1,10 +1,10 @@
 ghost use Rattle.std.specs.Prelude.{◌≡◌, ◌++◌, map, length, IfOk, OnOk};
 ghost use Rattle.dbn_formula.specs.Safe.{arranged};
-ghost use Rattle.dbn_formula.specs.Conjuncts.{order};
+ghost use Rattle.dbn_formula.specs.Conjuncts.{order, arranged_along};
 
 use super::formula::{Formula, Formulas};
 use super::normal_form::{choice, denial};
-use super::safety::{outside, safe_position};
+use super::safety::{in_turns, outside};
 use super::variables::add_occurrences;
 use dbn_value::{CopyIn, TypedVars, Var, Vars, copy_items};
 use sqlite_items::{Boxed, Items};
@@ -28,13 +28,7 @@ fn arranged_at(alloc: Global, f: &Formula, bound: &[Var]) -> Result<Formula, All
     match f {
         Formula::Atom { .. } => f.copy_in(alloc),
         Formula::Test { .. } => f.copy_in(alloc),
-        Formula::And(parts) => {
-            let mut made = Items::new(alloc);
-            let mut rest = copy_items(alloc, parts.as_slice())?;
-            let mut bound = copy_items(alloc, bound)?;
-            add_in_order(alloc, &mut made, &mut rest, &mut bound)?;
-            Ok(Formula::And(made))
-        }
+        Formula::And(parts) => Ok(Formula::And(in_order(alloc, parts.as_slice(), bound)?)),
         Formula::Or(parts) => {
             let mut made = Items::new(alloc);
             add_arranged(alloc, &mut made, parts.as_slice(), bound)?;
@@ -82,25 +76,57 @@ fn add_arranged(
     Ok(())
 }
 
-/// Appends the parts, arranged, in the order in which the safety test takes them.
+/// The parts, arranged, in the order in which the safety test takes them.
 #[cycle(arranged)]
-#[tactic(auto, using(crate::proofs::Turns::order_laws))]
-fn add_in_order(
+fn in_order(alloc: Global, parts: &[Formula], bound: &[Var]) -> Result<Formulas, AllocError>
+    ensures { IfOk result (λ made. made ≡ order (length parts.now) parts.now bound.now) }
+{
+    let turns = in_turns(alloc, parts, bound)?;
+    let mut made = Items::new(alloc);
+    add_in_turns(
+        alloc,
+        &mut made,
+        turns.taken.as_slice(),
+        turns.waiting.as_slice(),
+        bound,
+    )?;
+    Ok(made)
+}
+
+/// Appends the taken parts, each arranged for what is bound before it, and then those that wait, for all that is bound.
+#[cycle(arranged)]
+fn add_in_turns(
     alloc: Global,
     out: &mut Formulas,
-    rest: &mut Formulas,
-    bound: &mut Vars,
+    taken: &[&Formula],
+    waiting: &[&Formula],
+    bound: &[Var],
 ) -> Result<(), AllocError>
-    ensures { OnOk result (out.new ≡ out.old ++ order (length rest.old) rest.old bound.old) }
+    ensures { OnOk result (out.new ≡ out.old ++ arranged_along (map (λ f. f.now) taken.now) (map (λ f. f.now) waiting.now) bound.now) }
 {
-    let at = safe_position(alloc, rest.as_slice(), bound.as_slice())?;
-    if rest.len() <= at {
-        return add_arranged(alloc, out, rest.as_slice(), bound.as_slice());
+    let mut bound = copy_items(alloc, bound)?;
+    for part in taken {
+        out.push(arranged_at(alloc, *part, bound.as_slice())?)?;
+        add_occurrences(alloc, &mut bound, *part)?;
     }
-    let part = rest.remove(at);
-    out.push(arranged_at(alloc, &part, bound.as_slice())?)?;
-    add_occurrences(alloc, bound, &part)?;
-    add_in_order(alloc, out, rest, bound)
+    add_waiting(alloc, out, waiting, bound.as_slice())
+}
+
+/// Appends each part, arranged, as they stand.
+#[cycle(arranged)]
+#[tactic(auto, using(crate::proofs::FreeLaws::joining))]
+fn add_waiting(
+    alloc: Global,
+    out: &mut Formulas,
+    parts: &[&Formula],
+    bound: &[Var],
+) -> Result<(), AllocError>
+    ensures { OnOk result (out.new ≡ out.old ++ map (λ g. arranged g.now bound.now) parts.now) }
+{
+    for part in parts {
+        out.push(arranged_at(alloc, *part, bound)?)?;
+    }
+    Ok(())
 }
 
 fn implication(alloc: Global, left: Formula, right: Formula) -> Result<Formula, AllocError>

@@ -1,4 +1,4 @@
-ghost use Rattle.std.specs.Prelude.{◌≡◌, [], ◌∷◌, map, IfOk};
+ghost use Rattle.std.specs.Prelude.{◌≡◌, [], ◌∷◌, map, if◌then◌else◌, IfOk};
 ghost use Rattle.dbn_formula.specs.Normal.{denied_cmp, normal_at, normal};
 
 use super::formula::{Formula, Formulas};
@@ -31,32 +31,13 @@ fn normal_at(alloc: Global, f: &Formula, keep: bool) -> Result<Formula, AllocErr
             let cmp = if keep { *cmp } else { denied(*cmp) };
             Ok(Formula::Test { cmp, left, right })
         }
-        Formula::And(parts) => {
-            let parts = each_normal(alloc, parts.as_slice(), keep)?;
-            if keep {
-                Ok(Formula::And(parts))
-            } else {
-                Ok(Formula::Or(parts))
-            }
-        }
-        Formula::Or(parts) => {
-            let parts = each_normal(alloc, parts.as_slice(), keep)?;
-            if keep {
-                Ok(Formula::Or(parts))
-            } else {
-                Ok(Formula::And(parts))
-            }
-        }
+        Formula::And(parts) => Ok(joined(each_normal(alloc, parts.as_slice(), keep)?, keep)),
+        Formula::Or(parts) => Ok(joined(each_normal(alloc, parts.as_slice(), keep)?, !keep)),
         Formula::Not(part) => normal_at(alloc, part.get(), !keep),
         Formula::Implies(left, right) => {
             let left = normal_at(alloc, left.get(), !keep)?;
             let right = normal_at(alloc, right.get(), keep)?;
-            let parts = pair(alloc, left, right)?;
-            if keep {
-                Ok(Formula::Or(parts))
-            } else {
-                Ok(Formula::And(parts))
-            }
+            Ok(joined(pair(alloc, left, right)?, !keep))
         }
         Formula::Exists { vars, body } => {
             let body = normal_at(alloc, body.get(), true)?;
@@ -80,6 +61,17 @@ fn each_normal(alloc: Global, parts: &[Formula], keep: bool) -> Result<Formulas,
         made.push(normal_at(alloc, part, keep)?)?;
     }
     Ok(made)
+}
+
+/// The conjunction of the parts, or their disjunction.
+fn joined(parts: Formulas, every: bool) -> Formula
+    ensures { result ≡ (if every then Formula.And parts else Formula.Or parts) }
+{
+    if every {
+        Formula::And(parts)
+    } else {
+        Formula::Or(parts)
+    }
 }
 
 /// The comparison that holds exactly where the other doesn't.

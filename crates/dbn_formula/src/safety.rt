@@ -1,14 +1,38 @@
-ghost use Rattle.std.specs.Prelude.{◌≡◌, ◌++◌, ◌&&◌, length, IfOk};
+ghost use Rattle.std.specs.Prelude.{◌≡◌, [], ◌∷◌, ◌++◌, ◌&&◌, List, None, map, length, IfOk, OnOk};
 ghost use Rattle.std.specs.List.{flat_map, list_all};
 ghost use Rattle.dbn_formula.specs.Free.{occurrences, unhidden};
 ghost use Rattle.dbn_formula.specs.Safe.{all_in, known, test_safe, safe};
-ghost use Rattle.dbn_formula.specs.Conjuncts.{taken, safe_position};
+ghost use Rattle.dbn_formula.specs.Conjuncts.{first_safe, taken, turns, turns_after, safe_position};
+ghost use Rattle.dbn_formula.specs.declared.formula.Formula.{Formula};
 
-use super::formula::{Formula, Formulas};
+use super::formula::Formula;
 use super::variables::{add_occurrences, binds, is_in};
 use dbn_value::{Cmp, ColType, CopyIn, Term, Var, Vars, copy_items};
 use sqlite_items::Items;
 use std::alloc::{AllocError, Global};
+
+/// The parts of an `And`, as the safety test takes them.
+#[derive(Drop)]
+pub(crate) struct Turns<'a> {
+    /// Those that were taken, one after the other.
+    pub(crate) taken: Items<&'a Formula>,
+    /// Those that were not safe when they were looked at, in the order of the formula.
+    pub(crate) waiting: Items<&'a Formula>,
+    /// What was given, and the free variables of those that were taken.
+    bound: Vars,
+}
+
+impl<'a> Turns<'a> {
+    /// Takes the part, which binds its variables.
+    fn take(&mut self, alloc: Global, part: &'a Formula) -> Result<(), AllocError>
+        ensures taken { OnOk result (map (λ f. f.now) self.new.taken ≡ map (λ f. f.now) self.old.taken ++ part.now ∷ []) }
+        ensures waiting { OnOk result (self.new.waiting ≡ self.old.waiting) }
+        ensures bound { OnOk result (self.new.bound ≡ self.old.bound ++ occurrences part.now) }
+    {
+        self.taken.push(part)?;
+        add_occurrences(alloc, &mut self.bound, part)
+    }
+}
 
 /// Whether the formula is safe where these variables are bound: each of its free variables gets its values from an atom,
 /// or from an equation with what is bound.
@@ -28,11 +52,7 @@ fn safe_at(alloc: Global, f: &Formula, bound: &[Var]) -> Result<bool, AllocError
     match f {
         Formula::Atom { .. } => Ok(true),
         Formula::Test { cmp, left, right } => Ok(test_safe(*cmp, left, right, bound)),
-        Formula::And(parts) => {
-            let mut rest = copy_items(alloc, parts.as_slice())?;
-            let mut bound = copy_items(alloc, bound)?;
-            all_taken(alloc, &mut rest, &mut bound)
-        }
+        Formula::And(parts) => all_taken(alloc, parts.as_slice(), bound),
         Formula::Or(parts) => {
             let needed = all_occurrences(alloc, parts.as_slice())?;
             each_safe(alloc, parts.as_slice(), needed.as_slice(), bound)
@@ -73,38 +93,71 @@ fn each_safe(
     Ok(true)
 }
 
-/// Whether all parts get taken, each time the first one that is safe for what is bound so far.
+/// Whether all parts get taken.
 #[cycle(safe)]
-#[tactic(auto, using(crate::proofs::Turns::turn_laws))]
-fn all_taken(alloc: Global, rest: &mut Formulas, bound: &mut Vars) -> Result<bool, AllocError>
-    ensures { IfOk result (λ ok. ok ≡ taken (length rest.old) rest.old bound.old) }
+fn all_taken(alloc: Global, parts: &[Formula], bound: &[Var]) -> Result<bool, AllocError>
+    ensures { IfOk result (λ ok. ok ≡ taken (length parts.now) parts.now bound.now) }
 {
-    let at = safe_position(alloc, rest.as_slice(), bound.as_slice())?;
-    if rest.len() <= at {
-        return Ok(at == 0);
+    let turns = in_turns(alloc, parts, bound)?;
+    Ok(turns.waiting.is_empty())
+}
+
+/// Takes the parts, each time the first that is safe for what is bound so far: they are walked from left to right, and those
+/// that had to wait are tried again whenever one was taken.
+#[cycle(safe)]
+pub(crate) fn in_turns<'x>(
+    alloc: Global,
+    parts: &'x [Formula],
+    bound: &[Var],
+) -> Result<Turns<'x>, AllocError>
+    ensures taken { IfOk result (λ made. map (λ f. f.now) made.taken ≡ (turns (length parts.now) parts.now bound.now).0) }
+    ensures waiting { IfOk result (λ made. map (λ f. f.now) made.waiting ≡ (turns (length parts.now) parts.now bound.now).1) }
+{
+    let mut turns = Turns {
+        taken: Items::new(alloc),
+        waiting: Items::new(alloc),
+        bound: copy_items(alloc, bound)?,
+    };
+    for part in parts {
+        if safe_at(alloc, part, turns.bound.as_slice())? {
+            turns.take(alloc, part)?;
+            take_waiting(alloc, &mut turns)?;
+        } else {
+            turns.waiting.push(part)?;
+        }
     }
-    let part = rest.remove(at);
-    add_occurrences(alloc, bound, &part)?;
-    all_taken(alloc, rest, bound)
+    Ok(turns)
+}
+
+/// Takes those that wait, each time the first that is safe, until none is.
+#[cycle(safe)]
+fn take_waiting<'x>(alloc: Global, turns: &mut Turns<'x>) -> Result<(), AllocError>
+    ensures same_turns { OnOk result ((rest : List Formula)
+        → turns_after (map (λ f. f.now) turns.new.taken) (map (λ f. f.now) turns.new.waiting ++ rest) turns.new.bound
+        ≡ turns_after (map (λ f. f.now) turns.old.taken) (map (λ f. f.now) turns.old.waiting ++ rest) turns.old.bound) }
+    ensures none_safe { OnOk result (first_safe (map (λ f. f.now) turns.new.waiting) turns.new.bound ≡ None) }
+{
+    loop {
+        let at = safe_position(alloc, turns.waiting.as_slice(), turns.bound.as_slice())?;
+        if turns.waiting.len() <= at {
+            return Ok(());
+        }
+        let part = turns.waiting.remove(at);
+        turns.take(alloc, part)?;
+    }
 }
 
 /// The position of the first part that is safe, or the length where there is none.
 #[cycle(safe)]
-pub(crate) fn safe_position(
-    alloc: Global,
-    parts: &[Formula],
-    bound: &[Var],
-) -> Result<usize, AllocError>
-    ensures { IfOk result (λ at. at ≡ safe_position parts.now bound.now) }
+fn safe_position(alloc: Global, parts: &[&Formula], bound: &[Var]) -> Result<usize, AllocError>
+    ensures { IfOk result (λ at. at ≡ safe_position (map (λ f. f.now) parts.now) bound.now) }
 {
-    let mut at = 0;
-    for part in parts {
-        if safe_at(alloc, part, bound)? {
+    for (at, part) in parts.iter().enumerate() {
+        if safe_at(alloc, *part, bound)? {
             return Ok(at);
         }
-        at += 1;
     }
-    Ok(at)
+    Ok(parts.len())
 }
 
 /// Whether a comparison is safe: an equation needs one side, another comparison both.

@@ -13,6 +13,9 @@ decreases-each_renamed l = sum_by weight l.parts.now + 1
 abbrev pub decreases-renamed_under : goal.decreases-renamed_under
 decreases-renamed_under l = weight l.body.now + length l.vars.now + 1
 
+abbrev pub decreases-requantified : goal.decreases-requantified
+decreases-requantified l = weight l.body.now + length l.vars.now + 2
+
 abbrev pub invariant-each_renamed-loop-part : goal.invariant-each_renamed-loop-part
 invariant-each_renamed-loop-part l =
     (l.made ++ renamed_all l.used (drop l.part-index l.parts) (named l.names) l.last ≡ renamed_all l.used l.parts (named l.names) l.fn.last)
