@@ -244,7 +244,7 @@ bound_alike vars xs ys alike =
 abbrev SteadyAlike : Formula → Type 0
 SteadyAlike f = (xs ys : List Var) → Alike xs ys → steady f xs ≡ steady f ys
 
-alike_self : {A : Type 0} (xs : List A) → Alike xs xs
+pub alike_self : {A : Type 0} (xs : List A) → Alike xs xs
 alike_self xs = record { there = λ x at. at; back = λ x at. at }
 
 turn_alike : (fs : List Formula) → AllByRecursion SteadyAlike fs → (xs ys : List Var) → Alike xs ys → in_turn (map as_level fs) xs ≡ in_turn (map as_level fs) ys
@@ -278,10 +278,10 @@ steady_alike = induction SteadyAlike (record {
 
 -- ---- where fewer variables are bound, a formula stays clear of them
 
-abbrev Within : List Var → List Var → Type 0
+abbrev pub Within : List Var → List Var → Type 0
 Within xs ys = (x : Var) → In x xs → In x ys
 
-within_more : (xs ys zs : List Var) → Within xs ys → Within (xs ++ zs) (ys ++ zs)
+pub within_more : (xs ys zs : List Var) → Within xs ys → Within (xs ++ zs) (ys ++ zs)
 within_more xs ys zs within x at = ⊎_elim (λ here. append_left x ys zs (within x here)) (λ there. append_right x ys zs there) (in_append x xs zs at)
 
 abbrev ClearLess : Formula → Type 0

@@ -31,6 +31,7 @@ pub mod SizeLaws
 pub mod SolutionLaws
 pub mod SolveLaws
 pub mod Solved
+pub mod StaysSafe
 pub mod Truth
 pub mod Turns
 pub mod TypesKept

@@ -23,8 +23,8 @@ pub use laws::{
 pub use normal_form::normal;
 pub use safety::safe;
 pub use safety_laws::{
-    arranging_keeps, renaming_keeps, safe_formulas_are_bounded, safe_formulas_are_solved,
-    solutions_are_sound_and_complete,
+    any_safe_conjunct_first, arranging_keeps, renaming_keeps, safe_formulas_are_bounded,
+    safe_formulas_are_solved, safe_stays_safe, solutions_are_sound_and_complete,
 };
 pub use typing::{TypeFault, type_check};
 pub use variables::free;

@@ -1,9 +1,9 @@
-ghost use Rattle.std.specs.Prelude.{◌≡◌, Bool, true, List, [], ◌∷◌, map, ℕ};
+ghost use Rattle.std.specs.Prelude.{◌≡◌, Bool, true, List, [], ◌∷◌, ◌++◌, map, ℕ};
 ghost use Rattle.dbn_value.specs.declared.value.Value.{Value};
 ghost use Rattle.dbn_value.specs.declared.term.Var.{Var};
 ghost use Rattle.dbn_value.specs.Members.{In};
 ghost use Rattle.dbn_formula.specs.declared.formula.Formula.{Formula};
-ghost use Rattle.dbn_formula.specs.declared.formula.Formula.TheVariants.{Not};
+ghost use Rattle.dbn_formula.specs.declared.formula.Formula.TheVariants.{And, Not};
 ghost use Rattle.dbn_formula.specs.Variables.{TypedVars};
 ghost use Rattle.dbn_formula.specs.Holds.{Env, Domain, Instance, lookup, holds_over};
 ghost use Rattle.dbn_formula.specs.Answers.{constants, holds, answers};
@@ -35,6 +35,18 @@ pub fn arranging_keeps()
     ensures values { (f : Formula) (bound : List Var) (v : Value) → In v (constants (arranged f bound)) → In v (constants f) }
     ensures all_values { (f : Formula) (bound : List Var) (v : Value) → In v (constants f) → In v (constants (arranged f bound)) }
     ensures left_to_right { (f : Formula) (bound : List Var) → safe f bound ≡ true → clear f bound ≡ true → steady (arranged f bound) bound ≡ true }
+{}
+
+/// What is safe stays safe where more variables are bound.
+pub fn safe_stays_safe()
+    ensures { (f : Formula) (bound more : List Var) → ((x : Var) → In x bound → In x more) → safe f bound ≡ true → safe f more ≡ true }
+{}
+
+/// Whichever safe conjunct is taken first, the same is answered: a conjunction is safe where the others are, with its variables
+/// bound besides.
+pub fn any_safe_conjunct_first()
+    ensures { (before : List Formula) (f : Formula) (after : List Formula) (bound : List Var) → safe f bound ≡ true
+        → safe (And (before ++ f ∷ after)) bound ≡ safe (And (before ++ after)) (bound ++ occurrences f) }
 {}
 
 /// Where a formula holds that is safe from left to right, its free variables have values in the domain of their types.
