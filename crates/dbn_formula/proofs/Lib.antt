@@ -32,6 +32,7 @@ pub mod SolutionLaws
 pub mod SolveLaws
 pub mod Solved
 pub mod StaysSafe
+pub mod Trials
 pub mod Truth
 pub mod Turns
 pub mod TypesKept

@@ -160,7 +160,7 @@ pub taken_next : (before waiting rest : List Formula) (bound : List Var) (g : Fo
     → turns_after (before ++ g ∷ []) (waiting ++ rest) (bound ++ occurrences g) ≡ turns_after before (waiting ++ g ∷ rest) bound
 taken_next before waiting rest bound g none here = turn before (waiting ++ g ∷ rest) bound g (waiting ++ rest) (found_behind waiting rest bound g none here)
 
-map_remove : {X : Type 0} (v : X → Formula) (ws : List X) (i : ℕ) → map v (remove ws i) ≡ remove (map v ws) i
+pub map_remove : {X : Type 0} (v : X → Formula) (ws : List X) (i : ℕ) → map v (remove ws i) ≡ remove (map v ws) i
 map_remove v [] zero = refl
 map_remove v [] (suc i) = refl
 map_remove v (w ∷ ws) zero = refl

@@ -1,4 +1,4 @@
--- A weight of formulas, by which recursions over them end.
+-- The weight of formulas, variant by variant.
 use Rattle.std.proofs.Common.{◌≡◌, ℕ, ◌+◌, List, [], ◌∷◌, map, refl, ap, sym, ◌∙◌, length, sum_by}
 use Rattle.std.proofs.lemmas.List.{length-map}
 use Rattle.std.proofs.lemmas.List.Sums.{sum_by-cons}
@@ -7,23 +7,8 @@ use Rattle.dbn_value.specs.declared.term.Cmp.{Cmp}
 use Rattle.dbn_formula.specs.Variables.{TypedVars}
 use Rattle.dbn_formula.specs.declared.formula.Formula.{Formula}
 use Rattle.dbn_formula.specs.declared.formula.Formula.TheVariants.{Atom, Test, And, Or, Not, Implies, Exists, Forall}
-use Rattle.dbn_formula.specs.declared.formula.Formula.TheOpen.{Formula-F}
-use Rattle.dbn_formula.specs.declared.formula.Formula.TheOpen as layer
-use Rattle.dbn_formula.specs.declared.formula.Formula.TheFolds.{fold-Formula}
+pub use Rattle.dbn_formula.specs.Weight.{weight_step, weight}
 use Rattle.dbn_formula.proofs.Folds.{fold_atom, fold_test, fold_and, fold_or, fold_not, fold_implies, fold_exists, fold_forall}
-
-abbrev pub weight_step : Formula-F ℕ → ℕ
-weight_step (layer.Atom rel terms) = 1
-weight_step (layer.Test cmp left right) = 1
-weight_step (layer.And parts) = sum_by (λ n. n) parts + length parts + 5
-weight_step (layer.Or parts) = sum_by (λ n. n) parts + 5
-weight_step (layer.Not part) = part + 1
-weight_step (layer.Implies left right) = left + right + 1
-weight_step (layer.Exists vars body) = body + length vars + 3
-weight_step (layer.Forall vars body) = body + length vars + 3
-
-unfoldable pub weight : Formula → ℕ
-weight f = fold-Formula ℕ weight_step f
 
 weighed : (fs : List Formula) → sum_by (λ (n : ℕ). n) (map weight fs) ≡ sum_by weight fs
 weighed [] = refl
@@ -40,12 +25,12 @@ pub weight_test : (cmp : Cmp) (left right : Term) → weight (Test cmp left righ
 unfolding weight
 weight_test cmp left right = fold_test ℕ weight_step cmp left right
 
-pub weight_and : (fs : List Formula) → weight (And fs) ≡ sum_by weight fs + length fs + 5
+pub weight_and : (fs : List Formula) → weight (And fs) ≡ sum_by weight fs + length fs + 6
 unfolding weight
 weight_and fs =
     fold_and ℕ weight_step fs
-    ∙ ap (λ (n : ℕ). n + length (map weight fs) + 5) (weighed fs)
-    ∙ ap (λ (k : ℕ). sum_by weight fs + k + 5) (length-map fs weight)
+    ∙ ap (λ (n : ℕ). n + length (map weight fs) + 6) (weighed fs)
+    ∙ ap (λ (k : ℕ). sum_by weight fs + k + 6) (length-map fs weight)
 
 pub weight_or : (fs : List Formula) → weight (Or fs) ≡ sum_by weight fs + 5
 unfolding weight

@@ -7,6 +7,7 @@ pub mod Holds
 pub mod Naming
 pub mod Normal
 pub mod Ready
+pub mod Rest
 pub mod Safe
 pub mod Scope
 pub mod Size
@@ -14,3 +15,4 @@ pub mod Solutions
 pub mod Solve
 pub mod Typing
 pub mod Variables
+pub mod Weight

@@ -2,14 +2,25 @@ ghost use Rattle.std.specs.Prelude.{◌≡◌, [], ◌∷◌, ◌++◌, ◌&&◌
 ghost use Rattle.std.specs.List.{flat_map, list_all};
 ghost use Rattle.dbn_formula.specs.Free.{occurrences, unhidden};
 ghost use Rattle.dbn_formula.specs.Safe.{all_in, known, test_safe, safe};
+ghost use Rattle.dbn_value.specs.declared.term.Term.{Term};
+ghost use Rattle.dbn_formula.specs.Rest.{Rest, Rests, stand_in, conjunction_left};
 ghost use Rattle.dbn_formula.specs.Conjuncts.{first_safe, taken, turns, turns_after, safe_position};
 ghost use Rattle.dbn_formula.specs.declared.formula.Formula.{Formula};
 
-use super::formula::Formula;
+use super::formula::{Formula, Formulas};
+use super::normal_form::{choice, denial};
 use super::variables::{add_occurrences, binds, is_in};
-use dbn_value::{Cmp, ColType, CopyIn, Term, Var, Vars, copy_items};
+use dbn_value::{Cmp, ColType, CopyIn, Term, Terms, TypedVars, Var, Vars, copy_items};
 use sqlite_items::Items;
 use std::alloc::{AllocError, Global};
+
+/// A formula whose safety was tried.
+#[derive(Drop)]
+struct Tried {
+    is_safe: bool,
+    /// What is left to be tried where more is bound: there it is as safe as the formula. It has the same free variables.
+    left: Formula,
+}
 
 /// The parts of an `And`, as the safety test takes them.
 #[derive(Drop)]
@@ -18,6 +29,8 @@ pub(crate) struct Turns<'a> {
     pub(crate) taken: Items<&'a Formula>,
     /// Those that were not safe when they were looked at, in the order of the formula.
     pub(crate) waiting: Items<&'a Formula>,
+    /// What is left to be tried of each that waits.
+    lefts: Formulas,
     /// What was given, and the free variables of those that were taken.
     bound: Vars,
 }
@@ -27,6 +40,7 @@ impl<'a> Turns<'a> {
     fn take(&mut self, alloc: Global, part: &'a Formula) -> Result<(), AllocError>
         ensures taken { OnOk result (map (λ f. f.now) self.new.taken ≡ map (λ f. f.now) self.old.taken ++ part.now ∷ []) }
         ensures waiting { OnOk result (self.new.waiting ≡ self.old.waiting) }
+        ensures lefts { OnOk result (self.new.lefts ≡ self.old.lefts) }
         ensures bound { OnOk result (self.new.bound ≡ self.old.bound ++ occurrences part.now) }
     {
         self.taken.push(part)?;
@@ -41,69 +55,163 @@ impl<'a> Turns<'a> {
 pub fn safe(alloc: Global, f: &Formula, bound: &Vars) -> Result<bool, AllocError>
     ensures { IfOk result (λ ok. ok ≡ safe f.now bound.now) }
 {
-    safe_at(alloc, f, bound.as_slice())
+    let tried = trial(alloc, f, bound.as_slice())?;
+    Ok(tried.is_safe)
 }
 
+/// Tries whether the formula is safe, and says what is left to be tried once more is bound.
 #[cycle(safe)]
 #[tactic(auto, using(crate::proofs::SafeLaws::safe_laws, crate::proofs::OrderOfParts::taken_is, crate::proofs::Weights::weight_laws))]
-fn safe_at(alloc: Global, f: &Formula, bound: &[Var]) -> Result<bool, AllocError>
-    ensures { IfOk result (λ ok. ok ≡ safe f.now bound.now) }
+fn trial(alloc: Global, f: &Formula, bound: &[Var]) -> Result<Tried, AllocError>
+    ensures is_safe { IfOk result (λ tried. tried.is_safe ≡ safe f.now bound.now) }
+    ensures left { IfOk result (λ tried. Rest bound.now f.now tried.left) }
 {
     match f {
-        Formula::Atom { .. } => Ok(true),
-        Formula::Test { cmp, left, right } => Ok(test_safe(*cmp, left, right, bound)),
-        Formula::And(parts) => all_taken(alloc, parts.as_slice(), bound),
+        Formula::Atom { .. } => whole(alloc, f, true),
+        Formula::Test { cmp, left, right } => whole(alloc, f, test_safe(*cmp, left, right, bound)),
+        Formula::And(parts) => all_tried(alloc, parts.as_slice(), bound),
         Formula::Or(parts) => {
             let needed = all_occurrences(alloc, parts.as_slice())?;
-            each_safe(alloc, parts.as_slice(), needed.as_slice(), bound)
+            each_tried(alloc, parts.as_slice(), needed.as_slice(), bound)
         }
         Formula::Not(part) => {
-            if !binds_all_of(alloc, part.get(), bound)? {
-                return Ok(false);
-            }
-            safe_at(alloc, part.get(), bound)
+            let binds_all = binds_all_of(alloc, part.get(), bound)?;
+            tried_denial(alloc, trial(alloc, part.get(), bound)?, binds_all)
         }
-        Formula::Implies(_, _) => Ok(false),
+        Formula::Implies(_, _) => whole(alloc, f, false),
         Formula::Exists { vars, body } => {
             let outside = outside(alloc, vars.as_slice(), bound)?;
-            safe_at(alloc, body.get(), outside.as_slice())
+            tried_choice(alloc, vars, trial(alloc, body.get(), outside.as_slice())?)
         }
-        Formula::Forall { .. } => Ok(false),
+        Formula::Forall { .. } => whole(alloc, f, false),
     }
+}
+
+/// All of the formula is left.
+fn whole(alloc: Global, f: &Formula, is_safe: bool) -> Result<Tried, AllocError>
+    ensures is_safe { IfOk result (λ tried. tried.is_safe ≡ is_safe) }
+    ensures left { IfOk result (λ tried. tried.left ≡ f.now) }
+{
+    let left = f.copy_in(alloc)?;
+    Ok(Tried { is_safe, left })
+}
+
+/// A denial is safe if its part is, and binds no more than is bound.
+fn tried_denial(alloc: Global, part: Tried, binds_all: bool) -> Result<Tried, AllocError>
+    ensures is_safe { IfOk result (λ tried. tried.is_safe ≡ (binds_all && part.is_safe)) }
+    ensures left { IfOk result (λ tried. tried.left ≡ Formula.Not part.left) }
+{
+    let Tried { is_safe, left } = part;
+    let left = denial(alloc, left)?;
+    Ok(Tried {
+        is_safe: binds_all && is_safe,
+        left,
+    })
+}
+
+fn tried_choice(alloc: Global, vars: &TypedVars, body: Tried) -> Result<Tried, AllocError>
+    ensures is_safe { IfOk result (λ tried. tried.is_safe ≡ body.is_safe) }
+    ensures left { IfOk result (λ tried. tried.left ≡ Formula.Exists vars.now body.left) }
+{
+    let Tried { is_safe, left } = body;
+    let left = choice(alloc, vars, left)?;
+    Ok(Tried { is_safe, left })
 }
 
 /// Whether each part is safe, and binds what it needs together with what is bound.
 #[cycle(safe)]
-fn each_safe(
+fn each_tried(
     alloc: Global,
     parts: &[Formula],
     needed: &[Var],
     bound: &[Var],
-) -> Result<bool, AllocError>
-    ensures { IfOk result (λ ok. ok ≡ list_all (λ f. safe f bound.now && all_in needed.now (bound.now ++ occurrences f)) parts.now) }
+) -> Result<Tried, AllocError>
+    ensures is_safe { IfOk result (λ tried. tried.is_safe ≡ list_all (λ f. safe f bound.now && all_in needed.now (bound.now ++ occurrences f)) parts.now) }
+    ensures left { IfOk result (λ tried. Rest bound.now (Formula.Or parts.now) tried.left) }
 {
+    let mut is_safe = true;
+    let mut lefts = Items::new(alloc);
     for part in parts {
-        if !safe_at(alloc, part, bound)? {
-            return Ok(false);
-        }
-        if !binds_needed(alloc, part, needed, bound)? {
-            return Ok(false);
-        }
+        let tried = trial(alloc, part, bound)?;
+        let enough = binds_needed(alloc, part, needed, bound)?;
+        is_safe = all_three(is_safe, tried.is_safe, enough);
+        lefts.push(tried.left)?;
     }
-    Ok(true)
+    let left = Formula::Or(lefts);
+    Ok(Tried { is_safe, left })
+}
+
+// A function of its own, so that the loop that calls it has no branch.
+fn all_three(first: bool, second: bool, third: bool) -> bool
+    ensures { result ≡ (first && (second && third)) }
+{
+    first && second && third
 }
 
 /// Whether all parts get taken.
 #[cycle(safe)]
-fn all_taken(alloc: Global, parts: &[Formula], bound: &[Var]) -> Result<bool, AllocError>
-    ensures { IfOk result (λ ok. ok ≡ taken (length parts.now) parts.now bound.now) }
+fn all_tried(alloc: Global, parts: &[Formula], bound: &[Var]) -> Result<Tried, AllocError>
+    ensures is_safe { IfOk result (λ tried. tried.is_safe ≡ taken (length parts.now) parts.now bound.now) }
+    ensures left { IfOk result (λ tried. Rest bound.now (Formula.And parts.now) tried.left) }
 {
     let turns = in_turns(alloc, parts, bound)?;
-    Ok(turns.waiting.is_empty())
+    let is_safe = turns.waiting.is_empty();
+    let left = conjunction_left(alloc, turns)?;
+    Ok(Tried { is_safe, left })
+}
+
+/// What is left of a conjunction: those that wait, and an atom that binds what the taken ones bind.
+fn conjunction_left(alloc: Global, turns: Turns) -> Result<Formula, AllocError>
+    ensures { IfOk result (λ left. left ≡ conjunction_left (map (λ f. f.now) turns.entry.taken) turns.entry.lefts) }
+{
+    let Turns {
+        taken,
+        waiting: _,
+        lefts,
+        bound: _,
+    } = turns;
+    if taken.is_empty() {
+        return Ok(Formula::And(lefts));
+    }
+    let mut parts = Items::new(alloc);
+    parts.push(stand_in(alloc, taken.as_slice())?)?;
+    parts.append(lefts)?;
+    Ok(Formula::And(parts))
+}
+
+/// An atom with the free variables of the parts.
+fn stand_in(alloc: Global, parts: &[&Formula]) -> Result<Formula, AllocError>
+    ensures { IfOk result (λ atom. atom ≡ stand_in (flat_map (λ f. occurrences f.now) parts.now)) }
+{
+    let vars = occurrences_of(alloc, parts)?;
+    let terms = as_terms(alloc, vars.as_slice())?;
+    Ok(Formula::Atom { rel: 0, terms })
+}
+
+/// The free variables of all parts, as often as they occur.
+#[tactic(auto, using(crate::proofs::FreeLaws::joining))]
+fn occurrences_of(alloc: Global, parts: &[&Formula]) -> Result<Vars, AllocError>
+    ensures { IfOk result (λ vars. vars ≡ flat_map (λ f. occurrences f.now) parts.now) }
+{
+    let mut vars = Items::new(alloc);
+    for part in parts {
+        add_occurrences(alloc, &mut vars, *part)?;
+    }
+    Ok(vars)
+}
+
+fn as_terms(alloc: Global, vars: &[Var]) -> Result<Terms, AllocError>
+    ensures { IfOk result (λ terms. terms ≡ map Term.Var vars.now) }
+{
+    let mut terms = Items::new(alloc);
+    for var in vars {
+        terms.push(Term::Var(var.copy_in(alloc)?))?;
+    }
+    Ok(terms)
 }
 
 /// Takes the parts, each time the first that is safe for what is bound so far: they are walked from left to right, and those
-/// that had to wait are tried again whenever one was taken.
+/// that had to wait are tried again whenever one was taken, each from where its last trial ended.
 #[cycle(safe)]
 pub(crate) fn in_turns<'x>(
     alloc: Global,
@@ -112,52 +220,80 @@ pub(crate) fn in_turns<'x>(
 ) -> Result<Turns<'x>, AllocError>
     ensures taken { IfOk result (λ made. map (λ f. f.now) made.taken ≡ (turns (length parts.now) parts.now bound.now).0) }
     ensures waiting { IfOk result (λ made. map (λ f. f.now) made.waiting ≡ (turns (length parts.now) parts.now bound.now).1) }
+    ensures lefts { IfOk result (λ made. Rests (bound.now ++ flat_map occurrences (map (λ f. f.now) made.taken)) (map (λ f. f.now) made.waiting) made.lefts) }
 {
     let mut turns = Turns {
         taken: Items::new(alloc),
         waiting: Items::new(alloc),
+        lefts: Items::new(alloc),
         bound: copy_items(alloc, bound)?,
     };
     for part in parts {
-        if safe_at(alloc, part, turns.bound.as_slice())? {
-            turns.take(alloc, part)?;
-            take_waiting(alloc, &mut turns)?;
-        } else {
-            turns.waiting.push(part)?;
-        }
+        look_at(alloc, &mut turns, part)?;
     }
     Ok(turns)
+}
+
+/// Takes the next part, and then those that wait and are safe now; or lets it wait.
+#[cycle(safe)]
+fn look_at<'x>(alloc: Global, turns: &mut Turns<'x>, part: &'x Formula) -> Result<(), AllocError>
+    requires lefts { Rests turns.old.bound (map (λ f. f.now) turns.old.waiting) turns.old.lefts }
+    requires none_safe { first_safe (map (λ f. f.now) turns.old.waiting) turns.old.bound ≡ None }
+    ensures same_turns { OnOk result ((rest : List Formula)
+        → turns_after (map (λ f. f.now) turns.new.taken) (map (λ f. f.now) turns.new.waiting ++ rest) turns.new.bound
+        ≡ turns_after (map (λ f. f.now) turns.old.taken) (map (λ f. f.now) turns.old.waiting ++ part.now ∷ rest) turns.old.bound) }
+    ensures none_safe { OnOk result (first_safe (map (λ f. f.now) turns.new.waiting) turns.new.bound ≡ None) }
+    ensures lefts { OnOk result (Rests turns.new.bound (map (λ f. f.now) turns.new.waiting) turns.new.lefts) }
+    ensures bound { OnOk result ((given : List Var) → turns.old.bound ≡ given ++ flat_map occurrences (map (λ f. f.now) turns.old.taken)
+        → turns.new.bound ≡ given ++ flat_map occurrences (map (λ f. f.now) turns.new.taken)) }
+{
+    let tried = trial(alloc, part, turns.bound.as_slice())?;
+    if tried.is_safe {
+        turns.take(alloc, part)?;
+        return take_waiting(alloc, turns);
+    }
+    turns.waiting.push(part)?;
+    turns.lefts.push(tried.left)
 }
 
 /// Takes those that wait, each time the first that is safe, until none is.
 #[cycle(safe)]
 fn take_waiting<'x>(alloc: Global, turns: &mut Turns<'x>) -> Result<(), AllocError>
+    requires { Rests turns.old.bound (map (λ f. f.now) turns.old.waiting) turns.old.lefts }
     ensures same_turns { OnOk result ((rest : List Formula)
         → turns_after (map (λ f. f.now) turns.new.taken) (map (λ f. f.now) turns.new.waiting ++ rest) turns.new.bound
         ≡ turns_after (map (λ f. f.now) turns.old.taken) (map (λ f. f.now) turns.old.waiting ++ rest) turns.old.bound) }
     ensures none_safe { OnOk result (first_safe (map (λ f. f.now) turns.new.waiting) turns.new.bound ≡ None) }
+    ensures lefts { OnOk result (Rests turns.new.bound (map (λ f. f.now) turns.new.waiting) turns.new.lefts) }
+    ensures bound { OnOk result ((given : List Var) → turns.old.bound ≡ given ++ flat_map occurrences (map (λ f. f.now) turns.old.taken)
+        → turns.new.bound ≡ given ++ flat_map occurrences (map (λ f. f.now) turns.new.taken)) }
 {
     loop {
-        let at = safe_position(alloc, turns.waiting.as_slice(), turns.bound.as_slice())?;
+        let at = first_safe_left(alloc, &mut turns.lefts, turns.bound.as_slice())?;
         if turns.waiting.len() <= at {
             return Ok(());
         }
         let part = turns.waiting.remove(at);
+        turns.lefts.remove(at);
         turns.take(alloc, part)?;
     }
 }
 
-/// The position of the first part that is safe, or the length where there is none.
+/// The position of the first of these that is safe, or their number where there is none. Each that was tried and isn't safe
+/// gives way to what is left of it.
 #[cycle(safe)]
-fn safe_position(alloc: Global, parts: &[&Formula], bound: &[Var]) -> Result<usize, AllocError>
-    ensures { IfOk result (λ at. at ≡ safe_position (map (λ f. f.now) parts.now) bound.now) }
+fn first_safe_left(alloc: Global, lefts: &mut Formulas, bound: &[Var]) -> Result<usize, AllocError>
+    ensures position { IfOk result (λ at. at ≡ safe_position lefts.old bound.now) }
+    ensures lefts { OnOk result (Rests bound.now lefts.old lefts.new) }
 {
-    for (at, part) in parts.iter().enumerate() {
-        if safe_at(alloc, *part, bound)? {
+    for at in 0..lefts.len() {
+        let tried = trial(alloc, &lefts.as_slice()[at], bound)?;
+        if tried.is_safe {
             return Ok(at);
         }
+        lefts.set(at, tried.left);
     }
-    Ok(parts.len())
+    Ok(lefts.len())
 }
 
 /// Whether a comparison is safe: an equation needs one side, another comparison both.

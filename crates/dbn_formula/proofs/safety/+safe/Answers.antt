@@ -1,24 +1,85 @@
-use Rattle.std.proofs.Common.{◌≡◌, [], ◌∷◌, ◌++◌, ◌+◌, ◌≤◌, ℕ, List, None, Bor, map, length, drop, sum_by, get_or, remove, arith, ap, sym, ◌∙◌, subst}
-use Rattle.std.proofs.lemmas.List.{length-map, map-append, drop_all, drop_more}
-use Rattle.std.proofs.lemmas.List.Sums.{sum_by-remove}
+use Rattle.std.proofs.Common.{◌≡◌, [], ◌∷◌, ◌++◌, ◌+◌, ◌≤◌, ◌<◌, ℕ, Bool, true, false, List, None, Bor, map, length, drop, take, sum_by, get_or, remove, arith, ap, sym, ◌∙◌, subst, refl, append-nil}
+use Rattle.std.specs.List.{flat_map}
+use Rattle.std.proofs.lemmas.List.{length-map, map-append, drop_all, drop_more, take_more, take_all}
+use Rattle.std.proofs.lemmas.List.Edits.{length-remove}
+use Rattle.std.proofs.lemmas.List.Sums.{sum_by-remove, sum_by-drop_more}
+use Rattle.std.proofs.lemmas.Result.{IfOk-weaker}
+use Rattle.dbn_value.specs.declared.term.Var.{Var}
 use Rattle.dbn_formula.specs.Free.{occurrences}
-use Rattle.dbn_formula.specs.Safe.{safe}
+use Rattle.dbn_formula.specs.Safe.{safe, outside}
 use Rattle.dbn_formula.specs.Conjuncts.{first_safe, turns, turns_after, safe_position}
+use Rattle.dbn_formula.specs.Rest.{Rest, Rests, conjunction_left}
 use Rattle.dbn_formula.specs.declared.formula.Formula.{Formula}
+use Rattle.dbn_formula.specs.declared.formula.Formula.TheVariants.{And, Or, Not, Exists}
 use Rattle.dbn_formula.specs.declared.safety.Turns.{Turns}
 use Rattle.dbn_formula.proofs.Weights.{weight}
-use Rattle.dbn_formula.proofs.Turns.{none_waits, turns_begin, same_turns, taken_waiting, none_more, none_there, walk_taken, walk_waits, walk_ends, waiting_weighs}
+use Rattle.dbn_formula.proofs.Turns.{map_remove, none_waits, turns_begin, same_turns, taken_waiting, none_more, none_there, taken_next, walk_ends}
+use Rattle.dbn_formula.proofs.Trials.{rest_not, rest_exists, rest_or, rest_and, rests_self, rests_then, rests_more, rests_length, rests_weigh, rests_position, rests_remove, rests_set, rests_begin, rests_over, rests_push, or_more, one_weighs, position_behind, grown_one, within_bound, ahead_weighs}
 use Rattle.dbn_formula.proofs.safety.+safe.Goals as goal
-use Rattle.dbn_formula.proofs.safety.+safe.Goals.{in_turns-then-branch+in_ok-take+in_ok-take_waiting, in_turns-else-branch+in_ok-push}
 
 abbrev now : Bor Formula → Formula
 now f = f.now
 
-abbrev heavy : Bor Formula → ℕ
-heavy f = weight f.now
+-- ---- one formula
 
-pub all_taken-returns : goal.all_taken-returns
-all_taken-returns t c = none_waits now c.in_ok-turns.turns.waiting c.is_empty.result c.args.parts.now c.args.bound.now c.is_empty.ensures c.in_ok-turns.ensures.waiting
+pub trial-returns-in_ok-trial-in-Not-clause-left : goal.trial-returns-in_ok-trial-in-Not-clause-left
+trial-returns-in_ok-trial-in-Not-clause-left t c =
+    let bound = c.args.bound.now in
+    let left = c.in_ok-trial-in-Not.field-0.left in
+    IfOk-weaker c.tried_denial.result _ _
+    (λ made e. subst (Rest bound c.args.f.now) (sym e)
+    (subst (λ f. Rest bound f (Not left)) (sym c.in-Not.is)
+    (rest_not bound c.in-Not.part left (subst (λ f. Rest bound f left) c.get-in-Not.ensures c.in_ok-trial-in-Not.ensures.left))))
+    c.tried_denial.ensures.left
+
+pub trial-returns-in_ok-trial-in-Exists-clause-left : goal.trial-returns-in_ok-trial-in-Exists-clause-left
+trial-returns-in_ok-trial-in-Exists-clause-left t c =
+    let bound = c.args.bound.now in
+    let vars = c.in-Exists.vars in
+    let left = c.in_ok-trial-in-Exists.field-0.left in
+    let inside : c.as_slice-in-Exists-2.result.now ≡ outside vars bound =
+    c.as_slice-in-Exists-2.ensures ∙ c.in_ok-outside-in-Exists.ensures ∙ ap (λ xs. outside xs bound) c.as_slice-in-Exists.ensures in
+    IfOk-weaker c.tried_choice.result _ _
+    (λ made e. subst (Rest bound c.args.f.now) (sym e)
+    (subst (λ f. Rest bound f (Exists vars left)) (sym c.in-Exists.is)
+    (rest_exists bound vars c.in-Exists.body left
+    (subst (λ f. Rest (outside vars bound) f left) c.get-in-Exists.ensures (subst (λ xs. Rest xs c.get-in-Exists.result.now left) inside c.in_ok-trial-in-Exists.ensures.left)))))
+    c.tried_choice.ensures.left
+
+-- ---- a disjunction
+
+pub each_tried-loop-part-preserved : goal.each_tried-loop-part-preserved
+each_tried-loop-part-preserved t c =
+    let parts = c.args.parts.now in
+    let i = c.loop-part.part-index in
+    let part = c.part-item.result in
+    let tried = c.in_ok-tried.tried in
+    let more : take (i + 1) parts ≡ take i parts ++ part ∷ [] = take_more parts i part (omega arith) ∙ ap (λ (f : Formula). take i parts ++ f ∷ []) (sym c.part-item.is) in
+    record {
+      all_safe =
+          or_more c.args.bound.now c.args.needed.now (take i parts) (take (i + 1) parts) part c.loop-part.is_safe tried.is_safe c.in_ok-enough.enough c.all_three-is_safe.result
+          c.all_three-is_safe.ensures c.loop-part.invariant.all_safe c.in_ok-tried.ensures.is_safe c.in_ok-enough.ensures more;
+      lefts =
+          rests_push c.args.bound.now (take (i + 1) parts) (take i parts) c.push.new.self c.loop-part.lefts part tried.left more c.in_ok-push.ensures.ok c.loop-part.invariant.lefts c.in_ok-tried.ensures.left;
+    }
+
+pub each_tried-returns-clause-left : goal.each_tried-returns-clause-left
+each_tried-returns-clause-left t c =
+    let parts = c.args.parts.now in
+    rest_or c.args.bound.now parts c.loop-part.lefts
+    (subst (λ fs. Rests c.args.bound.now fs c.loop-part.lefts) (take_all c.loop-part.part-index parts c.loop-part-test.false) c.loop-part.invariant.lefts)
+
+-- ---- a conjunction
+
+pub all_tried-returns-clause-is_safe : goal.all_tried-returns-clause-is_safe
+all_tried-returns-clause-is_safe t c =
+    none_waits now c.in_ok-turns.turns.waiting c.is_empty-is_safe.result c.args.parts.now c.args.bound.now c.is_empty-is_safe.ensures c.in_ok-turns.ensures.waiting
+
+pub all_tried-returns-clause-left : goal.all_tried-returns-clause-left
+all_tried-returns-clause-left t c =
+    let made = c.in_ok-turns.turns in
+    subst (Rest c.args.bound.now (And c.args.parts.now)) (sym c.in_ok-left.ensures)
+    (rest_and c.args.bound.now c.args.parts.now (map now made.taken) (map now made.waiting) made.lefts c.in_ok-turns.ensures.taken c.in_ok-turns.ensures.waiting c.in_ok-turns.ensures.lefts)
 
 pub in_turns-loop-part-init : goal.in_turns-loop-part-init
 in_turns-loop-part-init t c =
@@ -29,50 +90,23 @@ in_turns-loop-part-init t c =
           (ap (λ ws. map now ws ++ parts) c.new-2.ensures) c.in_ok-copy_items.ensures
           ∙ turns_begin parts c.args.bound.now;
       none_safe = ap (λ ws. first_safe (map now ws) c.in_ok-copy_items.field-0) c.new-2.ensures;
+      lefts = rests_begin now c.in_ok-copy_items.field-0 c.new-2.result c.new-3.result c.new-2.ensures c.new-3.ensures;
+      grown =
+          c.in_ok-copy_items.ensures ∙ sym (append-nil c.args.bound.now)
+          ∙ ap (λ (ws : List (Bor Formula)). c.args.bound.now ++ flat_map occurrences (map now ws)) (sym c.new.ensures);
     }
 
-pub in_turns-take_waiting-requires : goal.in_turns-take_waiting-requires
-in_turns-take_waiting-requires t c =
-    let walked = c.loop-part.turns in
-    let e : sum_by heavy c.take.new.self.waiting ≡ sum_by heavy walked.waiting = ap (sum_by heavy) c.in_ok-take.ensures.waiting in
-    let w : sum_by heavy walked.waiting ≤ sum_by weight c.args.parts.now =
-    waiting_weighs now (map now walked.taken) walked.waiting (drop c.loop-part.part-index c.args.parts.now) walked.bound c.args.parts.now c.args.bound.now c.loop-part.invariant.same in
-    (omega (arith, e, w), tt)
-
-pub in_turns-loop-part-preserved : goal.in_turns-loop-part-preserved
-in_turns-loop-part-preserved t c =
+pub in_turns-look_at-requires : goal.in_turns-look_at-requires
+in_turns-look_at-requires t c =
     let parts = c.args.parts.now in
     let walked = c.loop-part.turns in
+    let i = c.loop-part.part-index in
     let part = c.part-item.result in
-    let rest = drop (c.loop-part.part-index + 1) parts in
-    let ahead : drop c.loop-part.part-index parts ≡ part ∷ rest = drop_more parts c.loop-part.part-index part (omega arith) ∙ ap (λ f. f ∷ rest) (sym c.part-item.is) in
-    let tested : safe part walked.bound ≡ c.in_ok-safe_at.field-0 = sym (c.in_ok-safe_at.ensures ∙ ap (safe part) c.as_slice.ensures) in
-    let end = turns (length parts) parts c.args.bound.now in
-    let inv = c.loop-part.invariant in
-    elim c.if-branch.branch [
-      | in_turns-then-branch+in_ok-take+in_ok-take_waiting w ↦
-          let turn = w.take.new.self in
-          record {
-            same =
-                subst (λ (made : Turns). turns_after (map now made.taken) (map now made.waiting ++ rest) made.bound ≡ end) (sym w.turns-is)
-                (w.in_ok-take_waiting.ensures.same_turns rest
-                ∙ same_turns (map now turn.taken) (map now walked.taken ++ part ∷ []) (map now turn.waiting ++ rest) (map now walked.waiting ++ rest) turn.bound (walked.bound ++ occurrences part)
-                w.in_ok-take.ensures.taken (ap (λ ws. map now ws ++ rest) w.in_ok-take.ensures.waiting) w.in_ok-take.ensures.bound
-                ∙ walk_taken (map now walked.taken) (map now walked.waiting) rest walked.bound part (drop c.loop-part.part-index parts) end inv.same ahead inv.none_safe (tested ∙ w.if-branch.true));
-            none_safe = subst (λ (made : Turns). first_safe (map now made.waiting) made.bound ≡ None) (sym w.turns-is) w.in_ok-take_waiting.ensures.none_safe;
-          }
-      | in_turns-else-branch+in_ok-push w ↦
-          let waits : map now w.push.new.self ≡ map now walked.waiting ++ part ∷ [] = ap (map now) w.in_ok-push.ensures.ok ∙ map-append now walked.waiting _ in
-          record {
-            same =
-                subst (λ (made : Turns). turns_after (map now made.taken) (map now made.waiting ++ rest) made.bound ≡ end) (sym w.turns-is)
-                (ap (λ (fs : List Formula). turns_after (map now walked.taken) (fs ++ rest) walked.bound) waits
-                ∙ walk_waits (map now walked.taken) (map now walked.waiting) rest walked.bound part (drop c.loop-part.part-index parts) end inv.same ahead);
-            none_safe =
-                subst (λ (made : Turns). first_safe (map now made.waiting) made.bound ≡ None) (sym w.turns-is)
-                (ap (λ (fs : List Formula). first_safe fs walked.bound) waits ∙ none_more (map now walked.waiting) walked.bound part inv.none_safe (tested ∙ w.if-branch.false));
-          }
-    ]
+    let a : sum_by weight walked.lefts + sum_by weight (drop i parts) ≤ sum_by weight parts =
+    ahead_weighs now (map now walked.taken) walked.waiting walked.lefts (drop i parts) walked.bound parts c.args.bound.now c.loop-part.invariant.same c.loop-part.invariant.lefts in
+    let b : sum_by weight (drop i parts) ≡ weight (get_or parts i part) + sum_by weight (drop (i + 1) parts) = sum_by-drop_more weight parts i part (omega arith) in
+    let e : weight part ≡ weight (get_or parts i part) = ap weight c.part-item.is in
+    (omega (arith, a, b, e), (c.loop-part.invariant.lefts, c.loop-part.invariant.none_safe))
 
 pub in_turns-returns-clause-taken : goal.in_turns-returns-clause-taken
 in_turns-returns-clause-taken t c =
@@ -90,31 +124,161 @@ in_turns-returns-clause-waiting t c =
     (walk_ends (map now walked.taken) (map now walked.waiting) (drop c.loop-part.part-index parts) walked.bound (turns (length parts) parts c.args.bound.now) c.loop-part.invariant.same
     (drop_all c.loop-part.part-index parts c.loop-part-test.false) c.loop-part.invariant.none_safe)
 
+-- ---- the next part
+
+pub look_at-take_waiting-requires : goal.look_at-take_waiting-requires
+look_at-take_waiting-requires t c =
+    let given = c.args.turns.now in
+    let turn = c.take.new.self in
+    let e : sum_by weight turn.lefts ≡ sum_by weight given.lefts = ap (sum_by weight) c.in_ok-take.ensures.lefts in (
+      omega (arith, e),
+      rests_over given.bound turn.bound (map now turn.waiting) (map now given.waiting) turn.lefts given.lefts (within_bound given.bound turn.bound c.args.part.now c.in_ok-take.ensures.bound)
+          (ap (map now) c.in_ok-take.ensures.waiting) c.in_ok-take.ensures.lefts c.requires.lefts,
+    )
+
+pub look_at-returns-then-tried-clause-same_turns : goal.look_at-returns-then-tried-clause-same_turns
+look_at-returns-then-tried-clause-same_turns t c =
+    let given = c.args.turns.now in
+    let turn = c.take.new.self in
+    let part = c.args.part.now in
+    let here : safe part given.bound ≡ true = sym (c.in_ok-tried.ensures.is_safe ∙ ap (safe part) c.as_slice.ensures) ∙ c.if-tried.true in
+    IfOk-weaker c.take_waiting.result _ _
+    (λ done same rest.
+    same rest
+    ∙ same_turns (map now turn.taken) (map now given.taken ++ part ∷ []) (map now turn.waiting ++ rest) (map now given.waiting ++ rest) turn.bound (given.bound ++ occurrences part)
+    c.in_ok-take.ensures.taken (ap (λ ws. map now ws ++ rest) c.in_ok-take.ensures.waiting) c.in_ok-take.ensures.bound
+    ∙ taken_next (map now given.taken) (map now given.waiting) rest given.bound part c.requires.none_safe here)
+    c.take_waiting.ensures.same_turns
+
+pub look_at-returns-clause-none_safe : goal.look_at-returns-clause-none_safe
+look_at-returns-clause-none_safe t c =
+    let given = c.args.turns.now in
+    let part = c.args.part.now in
+    let fails : safe part given.bound ≡ false = sym (c.in_ok-tried.ensures.is_safe ∙ ap (safe part) c.as_slice.ensures) ∙ c.if-tried.false in
+    let waits : map now c.push.new.self ≡ map now given.waiting ++ part ∷ [] = ap (map now) c.in_ok-push.ensures.ok ∙ map-append now given.waiting _ in
+    IfOk-weaker c.push-2.result _ _
+    (λ done e. ap (λ (fs : List Formula). first_safe fs given.bound) waits ∙ none_more (map now given.waiting) given.bound part c.requires.none_safe fails)
+    c.push-2.ensures.ok
+
+pub look_at-returns-clause-lefts : goal.look_at-returns-clause-lefts
+look_at-returns-clause-lefts t c =
+    let given = c.args.turns.now in
+    let part = c.args.part.now in
+    let left = c.in_ok-tried.tried.left in
+    let waits : map now c.push.new.self ≡ map now given.waiting ++ part ∷ [] = ap (map now) c.in_ok-push.ensures.ok ∙ map-append now given.waiting _ in
+    let rest : Rest given.bound part left = subst (λ xs. Rest xs part left) c.as_slice.ensures c.in_ok-tried.ensures.left in
+    IfOk-weaker c.push-2.result _ _
+    (λ done e. rests_push given.bound (map now c.push.new.self) (map now given.waiting) c.push-2.new.self given.lefts part left waits e c.requires.lefts rest)
+    c.push-2.ensures.ok
+
+-- ---- those that wait
+
 pub take_waiting-returns-then-len-at-clause-none_safe : goal.take_waiting-returns-then-len-at-clause-none_safe
 take_waiting-returns-then-len-at-clause-none_safe t c =
     let waiting = c.loop-at.turns.waiting in
+    let lefts = c.loop-at.turns.lefts in
     let bound = c.loop-at.turns.bound in
     let at : c.in_ok-at.at ≡ safe_position (map now waiting) bound =
-    c.in_ok-at.ensures ∙ ap (λ ws. safe_position (map now ws) c.as_slice-in-loop-at.result.now) c.as_slice.ensures ∙ ap (safe_position (map now waiting)) c.as_slice-in-loop-at.ensures in
+    c.in_ok-at.ensures.position ∙ ap (safe_position lefts) c.as_slice.ensures ∙ rests_position bound (map now waiting) lefts c.loop-at.invariant.lefts in
     let long : length (map now waiting) ≡ length waiting = length-map waiting now in
     none_there (map now waiting) bound (omega (arith, at, long, c.len.ensures, c.if-len-at.true))
+
+pub take_waiting-returns-then-len-at-clause-lefts : goal.take_waiting-returns-then-len-at-clause-lefts
+take_waiting-returns-then-len-at-clause-lefts t c =
+    let waiting = c.loop-at.turns.waiting in
+    let lefts = c.loop-at.turns.lefts in
+    let bound = c.loop-at.turns.bound in
+    let after = c.first_safe_left.new.lefts in
+    let tried : Rests bound lefts after = subst (λ xs. Rests xs lefts after) c.as_slice.ensures c.in_ok-at.ensures.lefts in
+    rests_then bound (map now waiting) lefts after c.loop-at.invariant.lefts tried
+
+pub take_waiting-remove-requires : goal.take_waiting-remove-requires
+take_waiting-remove-requires t c =
+    let waiting = c.loop-at.turns.waiting in
+    let lefts = c.loop-at.turns.lefts in
+    let bound = c.loop-at.turns.bound in
+    let after = c.first_safe_left.new.lefts in
+    let tried : Rests bound lefts after = subst (λ xs. Rests xs lefts after) c.as_slice.ensures c.in_ok-at.ensures.lefts in
+    let long : length (map now waiting) ≡ length waiting = length-map waiting now in
+    let same : length after ≡ length (map now waiting) = rests_length bound (map now waiting) after (rests_then bound (map now waiting) lefts after c.loop-at.invariant.lefts tried) in
+    omega (arith, long, same, c.len.ensures, c.if-len-at.false)
+
+pub take_waiting-loop-at-smaller : goal.take_waiting-loop-at-smaller
+take_waiting-loop-at-smaller t c =
+    let waiting = c.loop-at.turns.waiting in
+    let at = c.in_ok-at.at in
+    let a : length c.take.new.self.waiting ≡ length (remove waiting at) = ap length (c.in_ok-take.ensures.waiting ∙ c.remove-part.ensures.rest) in
+    let b : length (remove waiting at) + 1 ≡ length waiting = length-remove waiting at (omega (arith, c.len.ensures, c.if-len-at.false)) in
+    omega (arith, a, b)
 
 pub take_waiting-loop-at-preserved : goal.take_waiting-loop-at-preserved
 take_waiting-loop-at-preserved t c =
     let waiting = c.loop-at.turns.waiting in
+    let lefts = c.loop-at.turns.lefts in
     let bound = c.loop-at.turns.bound in
+    let after = c.first_safe_left.new.lefts in
+    let tried : Rests bound lefts after = subst (λ xs. Rests xs lefts after) c.as_slice.ensures c.in_ok-at.ensures.lefts in
+    let taken = c.loop-at.turns.taken in
     let turn = c.take.new.self in
     let part = c.remove-part.result in
-    let at : c.in_ok-at.at ≡ safe_position (map now waiting) bound =
-    c.in_ok-at.ensures ∙ ap (λ ws. safe_position (map now ws) c.as_slice-in-loop-at.result.now) c.as_slice.ensures ∙ ap (safe_position (map now waiting)) c.as_slice-in-loop-at.ensures in
+    let at = c.in_ok-at.at in
+    let both : Rests bound (map now waiting) after = rests_then bound (map now waiting) lefts after c.loop-at.invariant.lefts tried in
+    let first : at ≡ safe_position (map now waiting) bound =
+    c.in_ok-at.ensures.position ∙ ap (safe_position lefts) c.as_slice.ensures ∙ rests_position bound (map now waiting) lefts c.loop-at.invariant.lefts in
+    let fewer : turn.waiting ≡ remove waiting at = c.in_ok-take.ensures.waiting ∙ c.remove-part.ensures.rest in
+    let left : turn.lefts ≡ remove after at = c.in_ok-take.ensures.lefts ∙ c.remove.ensures.rest in
     record {
       same = λ rest.
-          same_turns (map now turn.taken) (map now c.loop-at.turns.taken ++ part.now ∷ []) (map now turn.waiting ++ rest) (map now (remove waiting c.in_ok-at.at) ++ rest) turn.bound (bound ++ occurrences part.now)
-          c.in_ok-take.ensures.taken (ap (λ ws. map now ws ++ rest) (c.in_ok-take.ensures.waiting ∙ c.remove-part.ensures.rest)) c.in_ok-take.ensures.bound
-          ∙ taken_waiting now (map now c.loop-at.turns.taken) waiting rest bound c.in_ok-at.at part at c.remove-part.ensures.item
+          same_turns (map now turn.taken) (map now taken ++ part.now ∷ []) (map now turn.waiting ++ rest) (map now (remove waiting at) ++ rest) turn.bound (bound ++ occurrences part.now)
+          c.in_ok-take.ensures.taken (ap (λ ws. map now ws ++ rest) fewer) c.in_ok-take.ensures.bound
+          ∙ taken_waiting now (map now taken) waiting rest bound at part first c.remove-part.ensures.item
           ∙ c.loop-at.invariant.same rest;
+      lefts =
+          rests_over bound turn.bound (map now turn.waiting) (remove (map now waiting) at) turn.lefts (remove after at) (within_bound bound turn.bound part.now c.in_ok-take.ensures.bound)
+          (ap (map now) fewer ∙ map_remove now waiting at) left (rests_remove bound (map now waiting) after at both);
+      grown = λ given e. grown_one given bound turn.bound (map now taken) (map now turn.taken) part.now (c.loop-at.invariant.grown given e) c.in_ok-take.ensures.bound c.in_ok-take.ensures.taken;
       lighter =
-          let a : sum_by heavy turn.waiting ≡ sum_by heavy (remove waiting c.in_ok-at.at) = ap (sum_by heavy) (c.in_ok-take.ensures.waiting ∙ c.remove-part.ensures.rest) in
-          let b : sum_by heavy (remove waiting c.in_ok-at.at) + heavy (get_or waiting c.in_ok-at.at part) ≡ sum_by heavy waiting = sum_by-remove heavy waiting c.in_ok-at.at part (omega arith) in
-          omega (arith, a, b, c.loop-at.invariant.lighter);
+          let long : length (map now waiting) ≡ length waiting = length-map waiting now in
+          let same : length after ≡ length (map now waiting) = rests_length bound (map now waiting) after both in
+          let below : at < length after = omega (arith, long, same, c.len.ensures, c.if-len-at.false) in
+          let a : sum_by weight turn.lefts ≡ sum_by weight (remove after at) = ap (sum_by weight) left in
+          let b : sum_by weight (remove after at) + weight (get_or after at part.now) ≡ sum_by weight after = sum_by-remove weight after at part.now below in
+          let d : sum_by weight after ≤ sum_by weight lefts = rests_weigh bound lefts after tried in
+          omega (arith, a, b, d, c.loop-at.invariant.lighter);
+    }
+
+-- ---- the first safe one
+
+pub first_safe_left-loop-at-init : goal.first_safe_left-loop-at-init
+first_safe_left-loop-at-init t c = record { position = omega arith; lefts = rests_self c.args.bound.now c.args.lefts.now; long = refl }
+
+pub first_safe_left-trial-requires : goal.first_safe_left-trial-requires
+first_safe_left-trial-requires t c =
+    let lefts = c.loop-at.lefts in
+    let looked = c.index-as_slice-at.result in
+    let here : looked ≡ get_or lefts c.loop-at.at looked = c.index-as_slice-at.is ∙ ap (λ fs. get_or fs c.loop-at.at looked) c.as_slice.ensures in
+    let below : c.loop-at.at < length lefts = omega (arith, c.loop-at.invariant.long, c.loop-at-test.true, c.len-at-end.ensures) in
+    let less : weight looked ≤ sum_by weight c.args.lefts.now = one_weighs c.args.bound.now c.args.lefts.now lefts c.loop-at.at looked c.loop-at.invariant.lefts below here in
+    (omega (arith, less), tt)
+
+pub first_safe_left-loop-at-preserved : goal.first_safe_left-loop-at-preserved
+first_safe_left-loop-at-preserved t c =
+    let bound = c.args.bound.now in
+    let given = c.args.lefts.now in
+    let lefts = c.loop-at.lefts in
+    let at = c.loop-at.at in
+    let looked = c.index-as_slice-at.result in
+    let left = c.in_ok-tried.tried.left in
+    let here : looked ≡ get_or lefts at looked = c.index-as_slice-at.is ∙ ap (λ fs. get_or fs at looked) c.as_slice.ensures in
+    let below : at < length lefts = omega (arith, c.loop-at.invariant.long, c.loop-at-test.true, c.len-at-end.ensures) in
+    let fails : safe (get_or lefts at looked) bound ≡ false = ap (λ f. safe f bound) (sym here) ∙ sym c.in_ok-tried.ensures.is_safe ∙ c.if-tried.false in
+    let kept : Rests bound given c.set.new.self =
+    subst (Rests bound given) (sym c.set.ensures)
+    (rests_set bound given lefts at looked left c.loop-at.invariant.lefts below (subst (λ f. Rest bound f left) here c.in_ok-tried.ensures.left)) in
+    record {
+      position =
+          subst (λ fs. safe_position given bound ≡ at + 1 + safe_position (drop (at + 1) fs) bound) (sym c.set.ensures)
+          (position_behind lefts at (safe_position given bound) looked left bound below c.loop-at.invariant.position fails);
+      lefts = kept;
+      long = rests_length bound given c.set.new.self kept;
     }
