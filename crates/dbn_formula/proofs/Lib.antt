@@ -15,6 +15,7 @@ pub mod FreeLaws
 pub mod HoldsLaws
 pub mod Induction
 pub mod Maps
+pub mod NamingLaws
 pub mod NormalAgain
 pub mod NormalAnswers
 pub mod NormalConstants

@@ -3,7 +3,7 @@ ghost use Rattle.std.specs.List.{flat_map};
 ghost use Rattle.std.specs.Ordering.{nat_cmp};
 ghost use Rattle.dbn_value.specs.Ascending.{ascending};
 ghost use Rattle.dbn_formula.specs.Apart.{term_marks, quantified_marks, marks, unused_from, renamed_var, renamed_term, fresh, last_mark, opened, renamed_at, last_at, renamed_all, last_all, renamed};
-ghost use Rattle.dbn_formula.specs.Naming.{named};
+ghost use Rattle.dbn_formula.specs.Naming.{named, renamed_under, found_or};
 
 use super::formula::{Formula, Formulas};
 use dbn_value::{Cell, ColType, CopyIn, Term, Terms, TypedVars, Var};
@@ -14,11 +14,11 @@ use std::alloc::{AllocError, Global};
 /// Marks of variables.
 type Marks = SmallVec<u64, 8>;
 
-/// The new marks of the quantified variables at a place of a formula, the innermost first.
+/// The new marks at a place of a formula: none, or for each quantifier around the place its variables and the same with their new marks, the innermost first.
 #[derive(Drop)]
 enum Names<'a> {
     Own,
-    Marked(&'a Var, u64, &'a Names<'a>),
+    Under(&'a [(Var, ColType)], &'a [(Var, ColType)], &'a Names<'a>),
 }
 
 /// The formula with its quantified variables renamed apart: each gets a mark that no other variable of the formula has.
@@ -199,6 +199,7 @@ fn renamed_at<'x>(
 
 /// The variables of a quantifier with their new marks, and the renamed formula under it.
 #[cycle(renamed)]
+#[tactic(auto, using(crate::proofs::NamingLaws::paired_fresh))]
 fn requantified<'x>(
     alloc: Global,
     used: &'x [u64],
@@ -212,16 +213,9 @@ fn requantified<'x>(
     ensures body { IfOk result (λ made. made.1 ≡ renamed_at used.now body.now (opened used.now vars.now last.old (named names.now)) (last_mark used.now vars.now last.old)) }
     ensures last { OnOk result (last.new ≡ last_at used.now body.now (opened used.now vars.now last.old (named names.now)) (last_mark used.now vars.now last.old)) }
 {
-    let mut made = Items::new(alloc);
-    let body = renamed_under(
-        alloc,
-        &*used,
-        vars.as_slice(),
-        &*body,
-        &*names,
-        last,
-        &mut made,
-    )?;
+    let made = fresh_vars(alloc, &*used, vars.as_slice(), last)?;
+    let inner = Names::Under(vars.as_slice(), made.as_slice(), &*names);
+    let body = renamed_at(alloc, &*used, &*body, &inner, last)?;
     Ok((made, Boxed::new(alloc, body)?))
 }
 
@@ -244,41 +238,25 @@ fn each_renamed<'x>(
     Ok(made)
 }
 
-/// The renamed formula under quantified variables, which get the next marks one after the other and are appended to `made`.
-#[cycle(renamed)]
-#[tactic(auto, using(crate::proofs::ApartLaws::apart_laws, crate::proofs::FreeLaws::joining))]
-fn renamed_under<'x>(
+/// The variables with the next marks, one after the other; `last` is the last mark that was given.
+fn fresh_vars(
     alloc: Global,
-    used: &'x [u64],
-    vars: &'x [(Var, ColType)],
-    body: &'x Formula,
-    names: &'x Names<'x>,
+    used: &[u64],
+    vars: &[(Var, ColType)],
     last: &mut u64,
-    made: &mut TypedVars,
-) -> Result<Formula, AllocError>
+) -> Result<TypedVars, AllocError>
     requires { ascending nat_cmp used.now ≡ used.now }
-    ensures formula { IfOk result (λ g. g ≡ renamed_at used.now body.now (opened used.now vars.now last.old (named names.now)) (last_mark used.now vars.now last.old)) }
-    ensures last { OnOk result (last.new ≡ last_at used.now body.now (opened used.now vars.now last.old (named names.now)) (last_mark used.now vars.now last.old)) }
-    ensures made { OnOk result (made.new ≡ made.old ++ fresh used.now vars.now last.old) }
+    ensures vars { IfOk result (λ made. made ≡ fresh used.now vars.now last.old) }
+    ensures last { OnOk result (last.new ≡ last_mark used.now vars.now last.old) }
 {
-    match vars {
-        [] => renamed_at(alloc, &*used, &*body, &*names, last),
-        [var, vars @ ..] => {
-            let mark = unused_from(used, above(*last)?)?;
-            let name = var.0.name.copy_in(alloc)?;
-            made.push((Var { name, mark }, var.1))?;
-            *last = mark;
-            renamed_under(
-                alloc,
-                &*used,
-                vars,
-                &*body,
-                &Names::Marked(&var.0, mark, &*names),
-                last,
-                made,
-            )
-        }
+    let mut made = Items::new(alloc);
+    for var in vars {
+        let mark = unused_from(used, above(*last)?)?;
+        let name = var.0.name.copy_in(alloc)?;
+        made.push((Var { name, mark }, var.1))?;
+        *last = mark;
     }
+    Ok(made)
 }
 
 fn renamed_terms(alloc: Global, terms: &[Term], names: &Names) -> Result<Terms, AllocError>
@@ -295,24 +273,35 @@ fn renamed_term(alloc: Global, term: &Term, names: &Names) -> Result<Term, Alloc
     ensures { IfOk result (λ made. made ≡ renamed_term (named names.now) term.now) }
 {
     match term {
-        Term::Var(var) => Ok(Term::Var(renamed_var(alloc, var, names)?)),
+        Term::Var(var) => Ok(Term::Var(renamed_var(var, names).copy_in(alloc)?)),
         Term::Const(value) => Ok(Term::Const(value.copy_in(alloc)?)),
     }
 }
 
 /// The variable with its new mark, or as it is where it has none.
-fn renamed_var<'x>(alloc: Global, var: &'x Var, names: &'x Names<'x>) -> Result<Var, AllocError>
-    ensures { IfOk result (λ made. made ≡ renamed_var (named names.now) var.now) }
+#[tactic(auto, using(crate::proofs::NamingLaws::renamed_entered))]
+fn renamed_var<'x>(var: &'x Var, names: &'x Names<'x>) -> &'x Var
+    ensures { result.now ≡ renamed_var (named names.now) var.now }
 {
     match names {
-        Names::Own => var.copy_in(alloc),
-        Names::Marked(other, mark, outer) => {
-            if var.same(other) {
-                let name = other.name.copy_in(alloc)?;
-                Ok(Var { name, mark: *mark })
-            } else {
-                renamed_var(alloc, &*var, &**outer)
-            }
+        Names::Own => var,
+        Names::Under(vars, made, outer) => match last_new(vars, made, var) {
+            Some(new) => new,
+            None => renamed_var(&*var, &**outer),
+        },
+    }
+}
+
+/// The new variable for the last of the quantifier's that is `var`, if one is.
+#[tactic(auto, using(crate::proofs::NamingLaws::renamed_by_none))]
+fn last_new<'x>(vars: &[(Var, ColType)], made: &'x [(Var, ColType)], var: &Var) -> Option<&'x Var>
+    ensures { (outside : Var) → renamed_under vars.now made.now var.now outside ≡ found_or result outside }
+{
+    let mut found = None;
+    for (old, new) in vars.iter().zip(made) {
+        if var.same(&old.0) {
+            found = Some(&new.0);
         }
     }
+    found
 }

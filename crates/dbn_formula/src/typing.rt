@@ -229,33 +229,25 @@ fn type_in<'x>(scope: &'x Scope<'x>, var: &'x Var) -> Option<ColType>
 fn first_type(vars: &[(Var, ColType)], var: &Var) -> Option<ColType>
     ensures { result ≡ type_in vars.now var.now }
 {
-    match vars {
-        [] => None,
-        [entry, vars @ ..] => {
-            if var.same(&entry.0) {
-                Some(entry.1)
-            } else {
-                first_type(vars, var)
-            }
+    for entry in vars {
+        if var.same(&entry.0) {
+            return Some(entry.1);
         }
     }
+    None
 }
 
-/// The type of the variable inside a quantifier, where it has the type `found` outside.
-fn type_under(vars: &[(Var, ColType)], var: &Var, found: Option<ColType>) -> Option<ColType>
-    ensures { result ≡ type_under vars.now var.now found }
+/// The type of the variable inside a quantifier, where it has the type `outside` around it.
+fn type_under(vars: &[(Var, ColType)], var: &Var, outside: Option<ColType>) -> Option<ColType>
+    ensures { result ≡ type_under vars.now var.now outside }
 {
-    match vars {
-        [] => found,
-        [entry, vars @ ..] => {
-            let found = if var.same(&entry.0) {
-                Some(entry.1)
-            } else {
-                found
-            };
-            type_under(vars, var, found)
+    let mut found = outside;
+    for entry in vars {
+        if var.same(&entry.0) {
+            found = Some(entry.1);
         }
     }
+    found
 }
 
 /// Whether each variable is in the scope.

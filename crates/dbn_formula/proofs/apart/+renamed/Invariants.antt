@@ -1,4 +1,4 @@
-use Rattle.std.proofs.Common.{◌≡◌, ◌+◌, ◌++◌, drop, length, sum_by}
+use Rattle.std.proofs.Common.{◌≡◌, ◌+◌, ◌++◌, drop, sum_by}
 use Rattle.dbn_formula.specs.Apart.{renamed_all, last_all}
 use Rattle.dbn_formula.specs.Naming.{named}
 use Rattle.dbn_formula.proofs.Weights.{weight}
@@ -10,11 +10,8 @@ decreases-renamed_at l = weight l.f.now
 abbrev pub decreases-each_renamed : goal.decreases-each_renamed
 decreases-each_renamed l = sum_by weight l.parts.now + 1
 
-abbrev pub decreases-renamed_under : goal.decreases-renamed_under
-decreases-renamed_under l = weight l.body.now + length l.vars.now + 1
-
 abbrev pub decreases-requantified : goal.decreases-requantified
-decreases-requantified l = weight l.body.now + length l.vars.now + 2
+decreases-requantified l = weight l.body.now + 1
 
 abbrev pub invariant-each_renamed-loop-part : goal.invariant-each_renamed-loop-part
 invariant-each_renamed-loop-part l =
