@@ -13,22 +13,21 @@ use Rattle.std.proofs.lemmas.List.Sums.{sum_by-cons, sum_by-append, sum_by-remov
 use Rattle.dbn_value.specs.Members.{In}
 use Rattle.dbn_value.proofs.MemberLaws.{all_at, all_from, in_append, append_left, append_right, in_flat, flat_in}
 use Rattle.dbn_value.specs.declared.term.Var.{Var}
-use Rattle.dbn_value.specs.declared.term.Term.{Term}
 use Rattle.dbn_value.specs.declared.term.Term.TheVariants as term
 use Rattle.dbn_formula.specs.Variables.{TypedVars, is_in}
-use Rattle.dbn_formula.specs.Free.{variable_of, unhidden, occurrences}
+use Rattle.dbn_formula.specs.Free.{variable_of, occurrences}
 use Rattle.dbn_formula.specs.Safe.{all_in, outside, safe}
 use Rattle.dbn_formula.specs.Weight.{weight}
 use Rattle.dbn_formula.specs.Conjuncts.{first_safe, taken, led, turns, turns_after, safe_position}
 use Rattle.dbn_formula.specs.Rest.{Rest, Rests, stand_in, conjunction_left}
 use Rattle.dbn_formula.specs.declared.formula.Formula.{Formula}
-use Rattle.dbn_formula.specs.declared.formula.Formula.TheVariants.{Atom, Test, And, Or, Not, Implies, Exists, Forall}
+use Rattle.dbn_formula.specs.declared.formula.Formula.TheVariants.{And, Or, Not, Exists}
 use Rattle.dbn_formula.proofs.Induction.{induction}
 use Rattle.dbn_formula.proofs.FreeLaws.{occurrences_atom, occurrences_and, occurrences_or, occurrences_not, occurrences_exists}
 use Rattle.dbn_formula.proofs.Weights.{weight_atom, weight_test, weight_and, weight_or, weight_not, weight_implies, weight_exists, weight_forall}
 use Rattle.dbn_formula.proofs.VariableLaws.{in_of_is, is_of_in, in_unhidden, unhidden_in}
 use Rattle.dbn_formula.proofs.OrderOfParts.{Alike}
-use Rattle.dbn_formula.proofs.Arranged.{Within, within_more, alike_append, alike_self, alike_then, alike_same}
+use Rattle.dbn_formula.proofs.Arranged.{Within, within_more, alike_append, alike_self}
 use Rattle.dbn_formula.proofs.SafeLaws.{safe_atom, safe_or, safe_not, safe_exists}
 use Rattle.dbn_formula.proofs.Turns.{turns_weigh, after_weighs}
 use Rattle.dbn_formula.proofs.StaysSafe.{Found, FoundIn, first_found, Picked, picked_in, picked_others, picked_length, Twin, AreTwins, taken_twins, own_twin, stays_safe, safe_all, pick_first, outside_more}
