@@ -13,22 +13,21 @@ use Rattle.std.proofs.lemmas.List.Sums.{sum_by-cons, sum_by-append, sum_by-remov
 use Rattle.dbn_value.specs.Members.{In}
 use Rattle.dbn_value.proofs.MemberLaws.{all_at, all_from, in_append, append_left, append_right, in_flat, flat_in}
 use Rattle.dbn_value.specs.declared.term.Var.{Var}
-use Rattle.dbn_value.specs.declared.term.Term.{Term}
 use Rattle.dbn_value.specs.declared.term.Term.TheVariants as term
 use Rattle.dbn_formula.specs.Variables.{TypedVars, is_in}
-use Rattle.dbn_formula.specs.Free.{variable_of, unhidden, occurrences}
+use Rattle.dbn_formula.specs.Free.{variable_of, occurrences}
 use Rattle.dbn_formula.specs.Safe.{all_in, outside, safe}
 use Rattle.dbn_formula.specs.Weight.{weight}
 use Rattle.dbn_formula.specs.Conjuncts.{first_safe, taken, led, turns, turns_after, safe_position}
 use Rattle.dbn_formula.specs.Rest.{Rest, Rests, stand_in, conjunction_left}
 use Rattle.dbn_formula.specs.declared.formula.Formula.{Formula}
-use Rattle.dbn_formula.specs.declared.formula.Formula.TheVariants.{Atom, Test, And, Or, Not, Implies, Exists, Forall}
+use Rattle.dbn_formula.specs.declared.formula.Formula.TheVariants.{And, Or, Not, Exists}
 use Rattle.dbn_formula.proofs.Induction.{induction}
 use Rattle.dbn_formula.proofs.FreeLaws.{occurrences_atom, occurrences_and, occurrences_or, occurrences_not, occurrences_exists}
 use Rattle.dbn_formula.proofs.Weights.{weight_atom, weight_test, weight_and, weight_or, weight_not, weight_implies, weight_exists, weight_forall}
 use Rattle.dbn_formula.proofs.VariableLaws.{in_of_is, is_of_in, in_unhidden, unhidden_in}
 use Rattle.dbn_formula.proofs.OrderOfParts.{Alike}
-use Rattle.dbn_formula.proofs.Arranged.{Within, within_more, alike_append, alike_self, alike_then, alike_same}
+use Rattle.dbn_formula.proofs.Arranged.{Within, within_more, alike_append, alike_self}
 use Rattle.dbn_formula.proofs.SafeLaws.{safe_atom, safe_or, safe_not, safe_exists}
 use Rattle.dbn_formula.proofs.Turns.{turns_weigh, after_weighs}
 use Rattle.dbn_formula.proofs.StaysSafe.{Found, FoundIn, first_found, Picked, picked_in, picked_others, picked_length, Twin, AreTwins, taken_twins, own_twin, stays_safe, safe_all, pick_first, outside_more}
@@ -37,9 +36,6 @@ use Rattle.dbn_formula.proofs.StaysSafe.{Found, FoundIn, first_found, Picked, pi
 
 pub rest_self : (bound : List Var) (f : Formula) → Rest bound f f
 rest_self bound f = record { as_safe = λ more within. refl; from = λ x at. at; to = λ x at. at; lighter = omega arith }
-
-pub rest_is : (bound : List Var) (f g : Formula) → g ≡ f → Rest bound f g
-rest_is bound f g e = subst (Rest bound f) (sym e) (rest_self bound f)
 
 -- tried again where more is bound
 pub rest_then : (bound more : List Var) (f g h : Formula) → Within bound more → Rest bound f g → Rest more g h → Rest more f h
@@ -360,12 +356,6 @@ rests_set bound (f ∷ fs) (k ∷ gs) (suc i) d g rests h rest = (rests.0, rests
 ahead : (gs : List Formula) (i : ℕ) (d : Formula) (bound : List Var) → i < length gs
     → safe_position (drop i gs) bound ≡ cond (safe (get_or gs i d) bound) 0 (safe_position (drop (i + 1) gs) bound + 1)
 ahead gs i d bound h = ap (λ fs. safe_position fs bound) (drop_more gs i d h)
-
--- the one that is looked at is the first safe one
-pub position_here : (gs : List Formula) (i n : ℕ) (d : Formula) (bound : List Var) → i < length gs → n ≡ i + safe_position (drop i gs) bound → safe (get_or gs i d) bound ≡ true → n ≡ i
-position_here gs i n d bound h e here =
-    let a : safe_position (drop i gs) bound ≡ 0 = ahead gs i d bound h ∙ ap (λ b. cond b 0 (safe_position (drop (i + 1) gs) bound + 1)) here in
-    omega (arith, e, a)
 
 -- it isn't safe, and gives way to what is left of it
 pub position_behind : (gs : List Formula) (i n : ℕ) (d g : Formula) (bound : List Var) → i < length gs → n ≡ i + safe_position (drop i gs) bound → safe (get_or gs i d) bound ≡ false

@@ -1,5 +1,5 @@
 -- What is left of a formula when its safety was tried: wherever at least as much is bound, it is as safe as the formula.
-use Rattle.std.specs.Prelude.{◌≡◌, ℕ, ◌≤◌, List, [], ◌∷◌, ◌++◌, map}
+use Rattle.std.specs.Prelude.{◌≡◌, ◌≤◌, List, [], ◌∷◌, map}
 use Rattle.std.specs.List.{flat_map}
 use Rattle.dbn_value.specs.Members.{In}
 use Rattle.dbn_value.specs.declared.term.Var.{Var}

@@ -1,5 +1,5 @@
 -- A weight of formulas, by which recursions over them end.
-use Rattle.std.specs.Prelude.{ℕ, ◌+◌, List, length}
+use Rattle.std.specs.Prelude.{ℕ, ◌+◌, length}
 use Rattle.std.specs.List.{sum_by}
 use Rattle.dbn_formula.specs.declared.formula.Formula.{Formula}
 use Rattle.dbn_formula.specs.declared.formula.Formula.TheOpen.{Formula-F}

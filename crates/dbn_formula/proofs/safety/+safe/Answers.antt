@@ -1,20 +1,18 @@
-use Rattle.std.proofs.Common.{◌≡◌, [], ◌∷◌, ◌++◌, ◌+◌, ◌≤◌, ◌<◌, ℕ, Bool, true, false, List, None, Bor, map, length, drop, take, sum_by, get_or, remove, arith, ap, sym, ◌∙◌, subst, refl, append-nil}
+use Rattle.std.proofs.Common.{◌≡◌, [], ◌∷◌, ◌++◌, ◌+◌, ◌≤◌, ◌<◌, true, false, List, Bor, map, length, drop, take, sum_by, get_or, remove, arith, ap, sym, ◌∙◌, subst, refl, append-nil}
 use Rattle.std.specs.List.{flat_map}
-use Rattle.std.proofs.lemmas.List.{length-map, map-append, drop_all, drop_more, take_more, take_all}
+use Rattle.std.proofs.lemmas.List.{length-map, map-append, drop_all, take_more, take_all}
 use Rattle.std.proofs.lemmas.List.Edits.{length-remove}
 use Rattle.std.proofs.lemmas.List.Sums.{sum_by-remove, sum_by-drop_more}
 use Rattle.std.proofs.lemmas.Result.{IfOk-weaker}
-use Rattle.dbn_value.specs.declared.term.Var.{Var}
 use Rattle.dbn_formula.specs.Free.{occurrences}
 use Rattle.dbn_formula.specs.Safe.{safe, outside}
-use Rattle.dbn_formula.specs.Conjuncts.{first_safe, turns, turns_after, safe_position}
-use Rattle.dbn_formula.specs.Rest.{Rest, Rests, conjunction_left}
+use Rattle.dbn_formula.specs.Conjuncts.{first_safe, turns, safe_position}
+use Rattle.dbn_formula.specs.Rest.{Rest, Rests}
 use Rattle.dbn_formula.specs.declared.formula.Formula.{Formula}
-use Rattle.dbn_formula.specs.declared.formula.Formula.TheVariants.{And, Or, Not, Exists}
-use Rattle.dbn_formula.specs.declared.safety.Turns.{Turns}
+use Rattle.dbn_formula.specs.declared.formula.Formula.TheVariants.{And, Not, Exists}
 use Rattle.dbn_formula.proofs.Weights.{weight}
 use Rattle.dbn_formula.proofs.Turns.{map_remove, none_waits, turns_begin, same_turns, taken_waiting, none_more, none_there, taken_next, walk_ends}
-use Rattle.dbn_formula.proofs.Trials.{rest_not, rest_exists, rest_or, rest_and, rests_self, rests_then, rests_more, rests_length, rests_weigh, rests_position, rests_remove, rests_set, rests_begin, rests_over, rests_push, or_more, one_weighs, position_behind, grown_one, within_bound, ahead_weighs}
+use Rattle.dbn_formula.proofs.Trials.{rest_not, rest_exists, rest_or, rest_and, rests_self, rests_then, rests_length, rests_weigh, rests_position, rests_remove, rests_set, rests_begin, rests_over, rests_push, or_more, one_weighs, position_behind, grown_one, within_bound, ahead_weighs}
 use Rattle.dbn_formula.proofs.safety.+safe.Goals as goal
 
 abbrev now : Bor Formula → Formula
