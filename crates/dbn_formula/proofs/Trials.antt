@@ -37,9 +37,6 @@ use Rattle.dbn_formula.proofs.StaysSafe.{Found, FoundIn, first_found, Picked, pi
 pub rest_self : (bound : List Var) (f : Formula) → Rest bound f f
 rest_self bound f = record { as_safe = λ more within. refl; from = λ x at. at; to = λ x at. at; lighter = omega arith }
 
-pub rest_is : (bound : List Var) (f g : Formula) → g ≡ f → Rest bound f g
-rest_is bound f g e = subst (Rest bound f) (sym e) (rest_self bound f)
-
 -- tried again where more is bound
 pub rest_then : (bound more : List Var) (f g h : Formula) → Within bound more → Rest bound f g → Rest more g h → Rest more f h
 rest_then bound more f g h within first second = record {
@@ -359,12 +356,6 @@ rests_set bound (f ∷ fs) (k ∷ gs) (suc i) d g rests h rest = (rests.0, rests
 ahead : (gs : List Formula) (i : ℕ) (d : Formula) (bound : List Var) → i < length gs
     → safe_position (drop i gs) bound ≡ cond (safe (get_or gs i d) bound) 0 (safe_position (drop (i + 1) gs) bound + 1)
 ahead gs i d bound h = ap (λ fs. safe_position fs bound) (drop_more gs i d h)
-
--- the one that is looked at is the first safe one
-pub position_here : (gs : List Formula) (i n : ℕ) (d : Formula) (bound : List Var) → i < length gs → n ≡ i + safe_position (drop i gs) bound → safe (get_or gs i d) bound ≡ true → n ≡ i
-position_here gs i n d bound h e here =
-    let a : safe_position (drop i gs) bound ≡ 0 = ahead gs i d bound h ∙ ap (λ b. cond b 0 (safe_position (drop (i + 1) gs) bound + 1)) here in
-    omega (arith, e, a)
 
 -- it isn't safe, and gives way to what is left of it
 pub position_behind : (gs : List Formula) (i n : ℕ) (d g : Formula) (bound : List Var) → i < length gs → n ≡ i + safe_position (drop i gs) bound → safe (get_or gs i d) bound ≡ false

@@ -185,20 +185,6 @@ same_turns before before2 fs fs2 bound bound2 p q r =
     ∙ ap (λ (gs : List Formula). turns_after before2 gs bound) q
     ∙ ap (λ (xs : List Var). turns_after before2 fs2 xs) r
 
--- the next part is taken
-pub walk_taken : (before waiting rest : List Formula) (bound : List Var) (g : Formula) (ahead : List Formula) (end : List Formula × List Formula)
-    → turns_after before (waiting ++ ahead) bound ≡ end → ahead ≡ g ∷ rest → first_safe waiting bound ≡ None → safe g bound ≡ true
-    → turns_after (before ++ g ∷ []) (waiting ++ rest) (bound ++ occurrences g) ≡ end
-walk_taken before waiting rest bound g ahead end e h none here =
-    taken_next before waiting rest bound g none here ∙ ap (λ (gs : List Formula). turns_after before (waiting ++ gs) bound) (sym h) ∙ e
-
--- the next part has to wait
-pub walk_waits : (before waiting rest : List Formula) (bound : List Var) (g : Formula) (ahead : List Formula) (end : List Formula × List Formula)
-    → turns_after before (waiting ++ ahead) bound ≡ end → ahead ≡ g ∷ rest
-    → turns_after before ((waiting ++ g ∷ []) ++ rest) bound ≡ end
-walk_waits before waiting rest bound g ahead end e h =
-    ap (λ (gs : List Formula). turns_after before gs bound) (append_assoc waiting (g ∷ []) rest ∙ ap (λ (gs : List Formula). waiting ++ gs) (sym h)) ∙ e
-
 -- no part is left
 pub walk_ends : (before waiting rest : List Formula) (bound : List Var) (end : List Formula × List Formula)
     → turns_after before (waiting ++ rest) bound ≡ end → rest ≡ [] → first_safe waiting bound ≡ None
@@ -280,18 +266,6 @@ weighed : {X : Type 0} (v : X → Formula) (ws : List X) → sum_by weight (map 
 weighed v [] = refl
 weighed v (w ∷ ws) =
     sum_by-cons weight (v w) (map v ws) ∙ ap (λ (k : ℕ). weight (v w) + k) (weighed v ws) ∙ sym (sum_by-cons (λ u. weight (v u)) w ws)
-
--- those that wait weigh no more than all
-pub waiting_weighs : {X : Type 0} (v : X → Formula) (before : List Formula) (ws : List X) (rest : List Formula) (bound : List Var) (fs : List Formula) (given : List Var)
-    → turns_after before (map v ws ++ rest) bound ≡ turns (length fs) fs given → sum_by (λ w. weight (v w)) ws ≤ sum_by weight fs
-waiting_weighs v before ws rest bound fs given e =
-    let total : List Formula × List Formula → ℕ = λ t. sum_by weight t.0 + sum_by weight t.1 in
-    let a : total (turns_after before (map v ws ++ rest) bound) ≡ sum_by weight before + sum_by weight (map v ws ++ rest) = after_weighs before (map v ws ++ rest) bound in
-    let b : total (turns (length fs) fs given) ≡ sum_by weight fs = turns_weigh (length fs) fs given in
-    let c : sum_by weight (map v ws ++ rest) ≡ sum_by weight (map v ws) + sum_by weight rest = sum_by-append weight (map v ws) rest in
-    let d : total (turns_after before (map v ws ++ rest) bound) ≡ total (turns (length fs) fs given) = ap total e in
-    let h : sum_by weight (map v ws) ≡ sum_by (λ w. weight (v w)) ws = weighed v ws in
-    omega (arith, a, b, c, d, h)
 
 -- the taken ones and the others weigh as much as all
 pub both_weigh : {X : Type 0} (v : X → Formula) (ws us : List X) (fs : List Formula) (bound : List Var)
