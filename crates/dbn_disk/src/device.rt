@@ -39,6 +39,7 @@ pub trait Disk {
     fn write_at(&mut self, at: u64, bytes: &[u8]) -> Result<(), Trouble>
         requires { at + length bytes.now ≤ 2 ^ 62 }
         ensures value { OnOk result ((state self.new).content ≡ option_map (written at bytes.now) (state self.old).content) }
+        ensures untouched { IsErrOf result Trouble.Memory → IsTrue (state self.old).honest → Still (state self.old) (state self.new) }
         ensures memory { IsErrOf result Trouble.Memory → (state self.new).content ≡ (state self.old).content }
         ensures crash { IsTrue (state self.old).honest → Follows (Torn at (length bytes.now)) (state self.old).image (state self.new).image }
         ensures time { IsTrue (state self.old).honest → Elapses (state self.old) (state self.new) }
@@ -50,6 +51,7 @@ pub trait Disk {
     /// `Memory` the bytes held are as before.
     fn cut(&mut self, to: u64) -> Result<(), Trouble>
         ensures value { OnOk result ((state self.new).content ≡ option_map (take to) (state self.old).content) }
+        ensures untouched { IsErrOf result Trouble.Memory → IsTrue (state self.old).honest → Still (state self.old) (state self.new) }
         ensures memory { IsErrOf result Trouble.Memory → (state self.new).content ≡ (state self.old).content }
         ensures crash { IsTrue (state self.old).honest → Follows (Cut to) (state self.old).image (state self.new).image }
         ensures time { IsTrue (state self.old).honest → Elapses (state self.old) (state self.new) }
@@ -65,6 +67,7 @@ pub trait Disk {
         ensures time { IsTrue (state self.old).honest → Elapses (state self.old) (state self.new) }
         ensures keeps { Keeps (state self.old) (state self.new) }
         ensures failed { IsErrOf result Trouble.Failed → Rose (state self.old).faults (state self.new).faults }
+        ensures undone { IsErrOf result Trouble.Failed → IsTrue (state self.old).honest → Still (state self.old) (state self.new) }
         ensures memory { IsErrOf result Trouble.Memory → ⊥ };
 
     /// An honest disk keeps the law.

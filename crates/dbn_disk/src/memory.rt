@@ -128,6 +128,7 @@ impl Disk for MemDisk {
         ensures keeps { Keeps (disk_state self.old) (disk_state self.new) }
         ensures failed { IsErrOf result Trouble.Failed → Rose (disk_state self.old).faults (disk_state self.new).faults }
         ensures counted { (IsErrOf result Trouble.Memory → ⊥) → Counted self.old self.new (self.old.calls ++ Call.Write at bytes.now (not (fails_next self.old.plan)) ∷ []) result }
+        ensures untouched { IsErrOf result Trouble.Memory → IsTrue (disk_state self.old).honest → Still (disk_state self.old) (disk_state self.new) }
         ensures unchanged { IsErrOf result Trouble.Memory → self.new ≡ self.old }
     {
         let Ok(copy) = prepare(
@@ -159,6 +160,7 @@ impl Disk for MemDisk {
         ensures keeps { Keeps (disk_state self.old) (disk_state self.new) }
         ensures failed { IsErrOf result Trouble.Failed → Rose (disk_state self.old).faults (disk_state self.new).faults }
         ensures counted { (IsErrOf result Trouble.Memory → ⊥) → Counted self.old self.new (self.old.calls ++ Call.Cut to (not (fails_next self.old.plan)) ∷ []) result }
+        ensures untouched { IsErrOf result Trouble.Memory → IsTrue (disk_state self.old).honest → Still (disk_state self.old) (disk_state self.new) }
         ensures unchanged { IsErrOf result Trouble.Memory → self.new ≡ self.old }
     {
         let Ok(()) = self.calls.reserve(2) else {
@@ -178,6 +180,7 @@ impl Disk for MemDisk {
         ensures time { IsTrue (disk_state self.old).honest → Elapses (disk_state self.old) (disk_state self.new) }
         ensures keeps { Keeps (disk_state self.old) (disk_state self.new) }
         ensures failed { IsErrOf result Trouble.Failed → Rose (disk_state self.old).faults (disk_state self.new).faults }
+        ensures undone { IsErrOf result Trouble.Failed → IsTrue (disk_state self.old).honest → Still (disk_state self.old) (disk_state self.new) }
         ensures memory { IsErrOf result Trouble.Memory → ⊥ }
         ensures counted { Counted self.old self.new (cond (fails_next self.old.plan) self.old.calls (then_sync self.old.calls)) result }
     {

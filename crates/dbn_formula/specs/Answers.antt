@@ -6,6 +6,7 @@ use Rattle.dbn_value.specs.Ascending.{ascending, rows_over}
 use Rattle.dbn_value.specs.declared.value.Value.{Value}
 use Rattle.dbn_value.specs.declared.term.Term.{Term}
 use Rattle.dbn_value.specs.declared.term.Term.TheVariants as term
+pub use Rattle.dbn_value.specs.Scope.{bind}
 use Rattle.dbn_formula.specs.Variables.{TypedVars, type_eq}
 use Rattle.dbn_formula.specs.Holds.{Env, Domain, Instance, holds_over}
 use Rattle.dbn_formula.specs.declared.formula.Formula.{Formula}
@@ -41,12 +42,6 @@ domain f db type = ascending value_cmp (filter (λ v. type_eq (value_type v) typ
 -- each variable of the formula, quantified or not, ranges over the domain of the whole formula
 abbrev pub holds : Formula → Instance → Env → Bool
 holds f db env = holds_over (domain f db) db f env
-
--- the variables with the values of a row, one after the other
-abbrev pub bind : TypedVars → List Value → Env → Env
-bind [] row env = env
-bind (x ∷ vars) [] env = env
-bind (x ∷ vars) (v ∷ row) env = bind vars row ((x.0, v) ∷ env)
 
 -- the rows of values for the variables that satisfy the formula, in ascending order
 abbrev pub answers : Formula → TypedVars → Instance → List (List Value)

@@ -5,6 +5,8 @@ use Rattle.std.specs.Ordering.{is_eq, is_lt, is_le, is_gt, is_ge, eq_by_cmp}
 use Rattle.std.specs.List.{list_any, list_all}
 use Rattle.dbn_value.specs.Members.{In}
 use Rattle.dbn_value.specs.Order.{value_cmp, row_cmp}
+pub use Rattle.dbn_value.specs.Order.{meets}
+pub use Rattle.dbn_value.specs.Scope.{Env, lookup, value_of}
 use Rattle.dbn_value.specs.declared.value.Value.{Value}
 use Rattle.dbn_value.specs.declared.value.Value.TheVariants.{Int}
 use Rattle.dbn_value.specs.declared.value.ColType.{ColType}
@@ -19,10 +21,6 @@ use Rattle.dbn_formula.specs.declared.formula.Formula.TheOpen.{Formula-F}
 use Rattle.dbn_formula.specs.declared.formula.Formula.TheOpen as layer
 use Rattle.dbn_formula.specs.declared.formula.Formula.TheFolds.{fold-Formula}
 
--- values of variables, the newest first: the first entry of a variable counts
-abbrev pub Env : Type 0
-Env = List (Var × Value)
-
 -- the values over which a quantified variable of each type ranges
 abbrev pub Domain : Type 0
 Domain = ColType → List Value
@@ -31,27 +29,9 @@ Domain = ColType → List Value
 abbrev pub Instance : Type 0
 Instance = List (List (List Value))
 
--- a variable without an entry stands for 0; no formula whose variables are all bound asks for one
-abbrev pub lookup : Env → Var → Value
-lookup [] x = Int (pos 0)
-lookup (entry ∷ env) x = if var_eq x entry.0 then entry.1 else lookup env x
-
 -- two environments give each variable of the list the same value
 abbrev pub Agree : List Var → Env → Env → Type 0
 Agree xs s t = (x : Var) → In x xs → lookup s x ≡ lookup t x
-
-abbrev pub value_of : Env → Term → Value
-value_of env (term.Var x) = lookup env x
-value_of env (term.Const v) = v
-
--- what a comparison says of two things that stand in this order
-abbrev pub meets : Cmp → Ordering → Bool
-meets cmp.Eq order = is_eq order
-meets cmp.Ne order = not (is_eq order)
-meets cmp.Lt order = is_lt order
-meets cmp.Le order = is_le order
-meets cmp.Gt order = is_gt order
-meets cmp.Ge order = is_ge order
 
 abbrev pub row_eq : List Value → List Value → Bool
 row_eq a b = eq_by_cmp row_cmp a b

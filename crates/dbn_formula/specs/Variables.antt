@@ -1,24 +1,12 @@
--- Variables and types: when two are the same, and lists of variables.
+-- Lists of variables.
 use Rattle.std.specs.Prelude.{if◌then◌else◌, ◌++◌, Bool, true, false, not, List, [], ◌∷◌}
 use Rattle.std.specs.List.{list_any, filter}
 pub use Rattle.dbn_value.specs.Variables.{var_eq}
+pub use Rattle.dbn_value.specs.Scope.{TypedVars}
+pub use Rattle.dbn_value.specs.Order.{type_eq}
 use Rattle.dbn_value.specs.declared.term.Var.{Var}
 use Rattle.dbn_value.specs.declared.value.ColType.{ColType}
 use Rattle.dbn_value.specs.declared.value.ColType.TheVariants as col
-
-abbrev pub TypedVars : Type 0
-TypedVars = List (Var × ColType)
-
-abbrev pub type_eq : ColType → ColType → Bool
-type_eq col.Int col.Int = true
-type_eq col.Int col.Text = false
-type_eq col.Int col.Id = false
-type_eq col.Text col.Int = false
-type_eq col.Text col.Text = true
-type_eq col.Text col.Id = false
-type_eq col.Id col.Int = false
-type_eq col.Id col.Text = false
-type_eq col.Id col.Id = true
 
 abbrev pub is_in : Var → List Var → Bool
 is_in x xs = list_any (λ y. var_eq x y) xs

@@ -13,6 +13,14 @@ pub fn normal(alloc: Global, f: &Formula) -> Result<Formula, AllocError>
     normal_at(alloc, f, true)
 }
 
+/// The normal form of the formula's negation. An error is want of memory.
+#[tactic(auto, using(crate::proofs::NormalLaws::normal_laws, crate::proofs::NormalLaws::either_laws))]
+pub fn normal_denied(alloc: Global, f: &Formula) -> Result<Formula, AllocError>
+    ensures { IfOk result (λ g. g ≡ normal (Formula.Not f.now)) }
+{
+    normal_at(alloc, f, false)
+}
+
 /// The normal form of the formula, or of its negation.
 #[cycle(normal)]
 #[tactic(auto, using(crate::proofs::NormalLaws::normal_laws, crate::proofs::NormalLaws::either_laws))]

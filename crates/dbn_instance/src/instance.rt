@@ -1,13 +1,15 @@
-ghost use Rattle.std.specs.Prelude.{◌≡◌, ◌<◌, ℕ, List, [], length, replicate, if◌then◌else◌, IfOk, OnOk, OnErr, IsTrue};
-ghost use Rattle.std.specs.List.{All};
+ghost use Rattle.std.specs.Prelude.{◌≡◌, ◌<◌, ℕ, List, [], length, replicate, if◌then◌else◌, not, IfOk, OnOk, OnErr, IsTrue};
+ghost use Rattle.std.specs.BTreeMap.{is_at};
+ghost use Rattle.std.specs.List.{All, list_any};
 ghost use Rattle.std.specs.List.Sorted.{IsStrictlySortedBy};
 ghost use Rattle.std.specs.Cmp.Lexicographic.{slice_cmp};
 ghost use Rattle.dbn_instance.specs.Facts.{rows_of, fact_of, comes, has_fact, with_fact, without_fact, changed, after_changes, taken_back, StoppedAt, AllFit, IsInstance};
 
 use super::fact::{Change, Changes, Fact};
 use super::relation::Relation;
-use dbn_value::{Cell, CopyIn, RowsOf};
+use dbn_value::{Cell, CopyIn, Row, RowsOf};
 use std::alloc::{AllocError, Global};
+use std::collections::BTreeSet;
 use std::marker::Model;
 
 /// An instance: for each relation, numbered from 0, its rows, each once, in the order of the cells.
@@ -56,6 +58,35 @@ impl<C: Cell> Instance<C> {
         ensures { result ≡ has_fact C.cmp self.now fact.now }
     {
         self.relations[fact.rel].has(&fact.row)
+    }
+
+    /// Whether the row is one of the relation's.
+    pub fn has_row(&self, rel: usize, row: &Row<C>) -> bool
+        requires { rel < length self.now }
+        ensures { result ≡ list_any (is_at (slice_cmp C.cmp row.now)) (rows_of self.now rel) }
+    {
+        self.relations[rel].has(row)
+    }
+
+    /// The rows of the relation as they stand, in the order of the cells. This takes no memory.
+    pub fn row_set(&self, rel: usize) -> &BTreeSet<Row<C>>
+        requires { rel < length self.now }
+        ensures { result.now.keys ≡ rows_of self.now rel }
+    {
+        self.relations[rel].row_set()
+    }
+
+    /// Adds the fact, unless it is there, and tells whether it is new. After want of memory nothing changed.
+    pub fn insert(&mut self, fact: Fact<C>) -> Result<bool, AllocError>
+        requires { fact.rel < length self.old }
+        ensures ok { OnOk result (self.new ≡ with_fact C.cmp self.old fact) }
+        ensures new { IfOk result (λ new. new ≡ not (has_fact C.cmp self.old fact)) }
+        ensures err { OnErr result (self.new ≡ self.old) }
+    {
+        let Fact { rel, row } = fact;
+        let relation = &mut self.relations[rel];
+        let new = relation.insert(row)?;
+        Ok(new)
     }
 
     /// The rows of the relation, in the order of the cells. An error is want of memory.

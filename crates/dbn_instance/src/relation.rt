@@ -1,4 +1,4 @@
-ghost use Rattle.std.specs.Prelude.{◌≡◌, [], IfOk, OnOk, OnErr};
+ghost use Rattle.std.specs.Prelude.{◌≡◌, [], not, IfOk, OnOk, OnErr};
 ghost use Rattle.std.specs.List.{list_any};
 ghost use Rattle.std.specs.List.Sorted.{IsStrictlySortedBy};
 ghost use Rattle.std.specs.BTreeMap.{is_at};
@@ -57,13 +57,21 @@ impl<C: Cell> Relation<C> {
         Ok(rows)
     }
 
-    /// Adds the row, unless it is there. After want of memory nothing changed.
-    pub(crate) fn insert(&mut self, row: Row<C>) -> Result<(), AllocError>
+    /// Adds the row, unless it is there, and tells whether it is new. After want of memory nothing changed.
+    pub(crate) fn insert(&mut self, row: Row<C>) -> Result<bool, AllocError>
         ensures ok { OnOk result (self.new ≡ insert_key (slice_cmp C.cmp) self.old row) }
+        ensures new { IfOk result (λ new. new ≡ not (list_any (is_at (slice_cmp C.cmp row)) self.old)) }
         ensures err { OnErr result (self.new ≡ self.old) }
     {
-        self.rows.insert(row)?;
-        Ok(())
+        let new = self.rows.insert(row)?;
+        Ok(new)
+    }
+
+    /// The rows as they stand, in the order of the cells.
+    pub(crate) fn row_set(&self) -> &BTreeSet<Row<C>>
+        ensures { result.now.keys ≡ self.now }
+    {
+        &self.rows
     }
 
     /// Takes the row out, where it is there.

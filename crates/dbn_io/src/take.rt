@@ -27,7 +27,6 @@ pub enum ReadStop {
 /// there are more, and took `most + 1` of them. `Failed` comes only where the count of faults rose; after it, and after
 /// `Memory`, some first bytes were taken.
 pub fn take_all<S: Source>(alloc: Global, source: &mut S, most: u64) -> Result<Bytes, ReadStop>
-    requires { most < 2 ^ 63 }
     ensures all { IfOk result (Consumes (S.left source.old) (S.left source.new)) }
     ensures end { OnOk result (IsAtEnd (S.left source.new)) }
     ensures most { IfOk result (λ bytes. length bytes ≤ most) }
@@ -35,6 +34,7 @@ pub fn take_all<S: Source>(alloc: Global, source: &mut S, most: u64) -> Result<B
     ensures told { SameTold (S.left source.old) (S.left source.new) }
     ensures later { S.faults source.old ≤ S.faults source.new }
     ensures failed { IsErrOf result ReadStop.Failed → Rose (S.faults source.old) (S.faults source.new) }
+    ensures kept { ¬ IsErrOf result ReadStop.Failed → S.faults source.new ≡ S.faults source.old }
 {
     let mut bytes = Vec::new(alloc);
     let Ok(mut piece) = room_for(alloc, PIECE) else {
@@ -42,7 +42,7 @@ pub fn take_all<S: Source>(alloc: Global, source: &mut S, most: u64) -> Result<B
     };
     let most_len = most as usize;
     'pieces: loop {
-        let room = PIECE.min(most_len - bytes.len() + 1);
+        let room = PIECE.min((most_len - bytes.len()).saturating_add(1));
         let count = match read_piece(source, &mut piece, room) {
             Ok(count) => count,
             Err(Trouble::Failed) => return Err(ReadStop::Failed),

@@ -1,5 +1,5 @@
 -- The gate and the length behind it, and what they say of a file.
-use Rattle.std.specs.Prelude.{ℕ, cond, ◌==◌, List, [], ◌∷◌, ◌+◌, length}
+use Rattle.std.specs.Prelude.{◌≡◌, ℕ, cond, ◌==◌, List, [], ◌∷◌, ◌+◌, length}
 use Rattle.std.specs.Int.{w32, from_be_bytes}
 use Rattle.dbn_journal.specs.Records.{Found, open_gate, body_in}
 use Rattle.dbn_journal.specs.Records.Found.{Shut, Held, Torn}
@@ -26,6 +26,12 @@ abbrev pub found_by : Head → List ℕ → Found
 found_by ShutHead rest = Shut
 found_by (HeldHead size) rest = body_in size rest
 found_by TornHead rest = Torn
+
+-- told or not, the next gate stands behind the body
+abbrev pub IsNext : ℕ → Gate → Type 0
+IsNext place ShutGate = Unit {0}
+IsNext place (HeldGate body after) = after ≡ place + 5 + length body
+IsNext place TornGate = Unit {0}
 
 -- the answer for what was found at this place
 abbrev pub gate_of : ℕ → Found → Gate

@@ -4,7 +4,7 @@ ghost use Rattle.std.specs.Prelude.{◌≡◌, ◌+◌, ◌^◌, ◌<◌, ◌≤
 ghost use Rattle.dbn_io.specs.declared.trouble.Trouble.{Trouble};
 ghost use Rattle.dbn_model.specs.Causes.{Rose};
 ghost use Rattle.dbn_disk.specs.Disk.{Still, Keeps};
-ghost use Rattle.dbn_journal.specs.Heads.{gate_of};
+ghost use Rattle.dbn_journal.specs.Heads.{gate_of, IsNext};
 ghost use Rattle.dbn_journal.specs.Records.{gate_in, body_in};
 
 use crate::gate::Gate;
@@ -17,6 +17,7 @@ use std::alloc::Global;
 /// torn. `Failed` comes only where the disk's count of faults rose. Nothing changes but that count.
 pub fn gate_at<D: Disk>(alloc: Global, disk: &mut D, place: u64) -> Result<Gate, Trouble>
     ensures gate { (b : List ℕ) → (D.state disk.old).content ≡ Some b → IfOk result (λ gate. gate ≡ gate_of place (gate_in (drop place b))) }
+    ensures next { IfOk result (λ gate. IsNext place gate) }
     ensures same { (D.state disk.new).content ≡ (D.state disk.old).content }
     ensures still { IsTrue (D.state disk.old).honest → Still (D.state disk.old) (D.state disk.new) }
     ensures keeps { Keeps (D.state disk.old) (D.state disk.new) }
@@ -35,6 +36,7 @@ pub fn gate_at<D: Disk>(alloc: Global, disk: &mut D, place: u64) -> Result<Gate,
 // tested before memory is taken.
 fn read_body<D: Disk>(alloc: Global, disk: &mut D, place: u64, size: u32) -> Result<Gate, Trouble>
     ensures gate { (b : List ℕ) → (D.state disk.old).content ≡ Some b → IfOk result (λ gate. gate ≡ gate_of place (body_in size (drop (place + 5) b))) }
+    ensures next { IfOk result (λ gate. IsNext place gate) }
     ensures same { (D.state disk.new).content ≡ (D.state disk.old).content }
     ensures still { IsTrue (D.state disk.old).honest → Still (D.state disk.old) (D.state disk.new) }
     ensures keeps { Keeps (D.state disk.old) (D.state disk.new) }
@@ -45,6 +47,9 @@ fn read_body<D: Disk>(alloc: Global, disk: &mut D, place: u64, size: u32) -> Res
         return Ok(Gate::Torn);
     }
     let body = read_some(alloc, disk, place + 5, size as usize)?;
+    if body.len() < size as usize {
+        return Ok(Gate::Torn);
+    }
     Ok(Gate::Held {
         body: Bytes::from_vec(body),
         after: place + 5 + size as u64,
@@ -54,6 +59,7 @@ fn read_body<D: Disk>(alloc: Global, disk: &mut D, place: u64, size: u32) -> Res
 // The bytes from `at` on, at most so many.
 fn read_some<D: Disk>(alloc: Global, disk: &mut D, at: u64, most: usize) -> Result<Vec<u8>, Trouble>
     ensures bytes { (b : List ℕ) → (D.state disk.old).content ≡ Some b → IfOk result (λ bytes. bytes.items ≡ take most (drop at b)) }
+    ensures most { IfOk result (λ bytes. length bytes.items ≤ most) }
     ensures same { (D.state disk.new).content ≡ (D.state disk.old).content }
     ensures still { IsTrue (D.state disk.old).honest → Still (D.state disk.old) (D.state disk.new) }
     ensures keeps { Keeps (D.state disk.old) (D.state disk.new) }

@@ -21,6 +21,7 @@ pub fn close_first<D: Disk>(disk: &mut D) -> Result<(), Trouble>
     ensures value { OnOk result ((D.state disk.new).content ≡ option_map closed (D.state disk.old).content) }
     ensures shut { OnOk result ((b : List ℕ) → (D.state disk.old).content ≡ Some b → IsTrue (D.state disk.old).honest → (c : List ℕ) → (D.state disk.new).image c → IsShutAt 0 c) }
     ensures any_moment { (b : List ℕ) → (D.state disk.old).content ≡ Some b → IsTrue (D.state disk.old).honest → LeavesOnly (D.state disk.old) (D.state disk.new) (IsClosing (D.state disk.old).image) }
+    ensures kept { (b : List ℕ) → (D.state disk.old).content ≡ Some b → IsTrue (D.state disk.old).honest → IsTrue (has_shut_first b) → Still (D.state disk.old) (D.state disk.new) }
     ensures keeps { Keeps (D.state disk.old) (D.state disk.new) }
     ensures failed { IsErrOf result Trouble.Failed → Rose (D.state disk.old).faults (D.state disk.new).faults }
 {

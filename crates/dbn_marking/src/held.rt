@@ -63,6 +63,14 @@ impl<C: Cell> Held<C> {
         self.rows.get(row).copied().unwrap_or(0)
     }
 
+    /// The rows with their counts, as they stand.
+    pub(crate) fn counts(&self) -> &BTreeMap<Row<C>, u64>
+        ensures rows { result.now.entries ≡ self.now }
+        ensures counted { IsCounted (slice_cmp C.cmp) self.now }
+    {
+        &self.rows
+    }
+
     /// The rows with their counts. An error is want of memory.
     pub(crate) fn rows(&self, alloc: Global) -> Result<CountedRows<C>, AllocError>
         ensures rows { IfOk result (λ rows. rows ≡ self.now) }

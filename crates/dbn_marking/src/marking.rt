@@ -6,6 +6,7 @@ ghost use Rattle.dbn_marking.specs.Counts.{place_of, count_at, with_tokens, with
 use super::held::{AddFault, CountedRows, Held};
 use dbn_value::{Cell, Row};
 use std::alloc::{AllocError, Global};
+use std::collections::BTreeMap;
 use std::marker::Model;
 
 /// A marking: for each place, numbered from 0, the rows that lie there with their counts, each from 1 to 4,294,967,295.
@@ -52,6 +53,15 @@ impl<C: Cell> Marking<C> {
         ensures small { result < 2 ^ 32 }
     {
         self.places[place].count(row)
+    }
+
+    /// The rows of the place with their counts as they stand, in the order of the cells. This takes no memory.
+    pub fn counts(&self, place: usize) -> &BTreeMap<Row<C>, u64>
+        requires { place < length self.now }
+        ensures rows { result.now.entries ≡ place_of self.now place }
+        ensures counted { IsCounted (slice_cmp C.cmp) (place_of self.now place) }
+    {
+        self.places[place].counts()
     }
 
     /// The rows of the place with their counts, in the order of the cells. An error is want of memory.

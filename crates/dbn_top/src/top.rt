@@ -85,6 +85,8 @@ pub fn dbnet<N: Source, C: Source, K: Sink, D: Disk>(
         → (result.status ≡ Status.InputLimit) ⊎ (result.status ≡ Status.Memory) }
     ensures order { ((C.left commands.new ≡ C.left commands.old) × (C.faults commands.new ≡ C.faults commands.old))
         ⊎ IsAccepted (N.left net.old) (N.left net.new) limits.now.net_bytes }
+    ensures calm_sources { result.status ≢ Status.ReadFault → (N.faults net.new ≡ N.faults net.old) × (C.faults commands.new ≡ C.faults commands.old) }
+    ensures calm_sink { result.status ≢ Status.WriteFault → K.faults out.new ≡ K.faults out.old }
     ensures never { (result.status ≢ Status.Store) × (result.status ≢ Status.DiskFault) }
     ensures disks { (result.a ≡ a) × (result.b ≡ b) }
     ensures told { SameTold (N.left net.old) (N.left net.new) × SameTold (C.left commands.old) (C.left commands.new)
@@ -116,6 +118,7 @@ fn run_usage<K: Sink>(out: &mut K) -> Status
     ensures status { (result ≡ Status.Usage) ⊎ (result ≡ Status.WriteFault) ⊎ (result ≡ Status.Memory) }
     ensures write_fault { result ≡ Status.WriteFault → Rose (K.faults out.old) (K.faults out.new) }
     ensures front { AppendsFront (K.taken out.old) (K.taken out.new) usage_line }
+    ensures calm { result ≢ Status.WriteFault → K.faults out.new ≡ K.faults out.old }
     ensures told { SameTold (K.taken out.old) (K.taken out.new) }
     ensures later { K.faults out.old ≤ K.faults out.new }
 {
@@ -143,6 +146,8 @@ fn run_try<N: Source, C: Source, K: Sink>(
     }) }
     ensures order { ((C.left commands.new ≡ C.left commands.old) × (C.faults commands.new ≡ C.faults commands.old))
         ⊎ IsAccepted (N.left net.old) (N.left net.new) limits.now.net_bytes }
+    ensures calm_sources { result ≢ Status.ReadFault → (N.faults net.new ≡ N.faults net.old) × (C.faults commands.new ≡ C.faults commands.old) }
+    ensures calm_sink { result ≢ Status.WriteFault → K.faults out.new ≡ K.faults out.old }
     ensures told { SameTold (N.left net.old) (N.left net.new) × SameTold (C.left commands.old) (C.left commands.new)
         × SameTold (K.taken out.old) (K.taken out.new) }
     ensures later { (N.faults net.old ≤ N.faults net.new) × (C.faults commands.old ≤ C.faults commands.new)

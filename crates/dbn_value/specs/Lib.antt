@@ -4,6 +4,7 @@ pub mod Members
 pub mod Names
 pub mod Order
 pub mod Picked
+pub mod Scope
 pub mod Sets
 pub mod Spelling
 pub mod Text

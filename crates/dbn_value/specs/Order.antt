@@ -1,8 +1,8 @@
 -- The order of values and of rows, the type of a value and the number of an int.
-use Rattle.std.specs.Prelude.{◌≡◌, ℤ, List, refl}
+use Rattle.std.specs.Prelude.{◌≡◌, Bool, true, false, not, ℤ, List, refl}
 use Rattle.std.proofs.Common.{ap}
 use Rattle.std.specs.Prelude.{Option, Some, None, IsSome, ◌↔◌}
-use Rattle.std.specs.Ordering.{nat_cmp, int_cmp, ordering_reverse}
+use Rattle.std.specs.Ordering.{nat_cmp, int_cmp, ordering_reverse, is_eq, is_lt, is_le, is_gt, is_ge}
 use Rattle.std.specs.declared.cmp.Ordering.{Ordering}
 use Rattle.std.specs.declared.cmp.Ordering.TheVariants.{Less, Equal, Greater}
 use Rattle.std.specs.Cmp.{IsTotalOrder, nat_cmp_total, int_cmp_total}
@@ -12,6 +12,8 @@ use Rattle.dbn_value.specs.declared.value.Value.{Value}
 use Rattle.dbn_value.specs.declared.value.Value.TheVariants.{Int, Text, Id}
 use Rattle.dbn_value.specs.declared.value.ColType.{ColType}
 use Rattle.dbn_value.specs.declared.value.ColType.TheVariants as col
+use Rattle.dbn_value.specs.declared.term.Cmp.{Cmp}
+use Rattle.dbn_value.specs.declared.term.Cmp.TheVariants as cmp
 
 -- ints before texts before ids; ints and ids by number, texts by their bytes
 abbrev pub value_cmp : Value → Value → Ordering
@@ -33,6 +35,26 @@ abbrev pub value_type : Value → ColType
 value_type (Int n) = col.Int
 value_type (Text bytes) = col.Text
 value_type (Id n) = col.Id
+
+abbrev pub type_eq : ColType → ColType → Bool
+type_eq col.Int col.Int = true
+type_eq col.Int col.Text = false
+type_eq col.Int col.Id = false
+type_eq col.Text col.Int = false
+type_eq col.Text col.Text = true
+type_eq col.Text col.Id = false
+type_eq col.Id col.Int = false
+type_eq col.Id col.Text = false
+type_eq col.Id col.Id = true
+
+-- what a comparison says of two things that stand in this order
+abbrev pub meets : Cmp → Ordering → Bool
+meets cmp.Eq order = is_eq order
+meets cmp.Ne order = not (is_eq order)
+meets cmp.Lt order = is_lt order
+meets cmp.Le order = is_le order
+meets cmp.Gt order = is_gt order
+meets cmp.Ge order = is_ge order
 
 -- the number of an int, by which ints are ordered
 abbrev pub value_int : Value → Option ℤ

@@ -1,4 +1,4 @@
-use Rattle.std.proofs.Common.{◌∙◌, arith}
+use Rattle.std.proofs.Common.{◌∙◌, arith, rules}
 use Rattle.dbn_model.proofs.ContentLaws.{part_front}
 use Rattle.dbn_model.specs.Commands.{run_text, step}
 use Rattle.dbn_model.specs.Lines.{lines}
@@ -29,6 +29,6 @@ lines-preserved g c = record {
       c.first_line.ensures.first c.in-Ok-answer.ensures.next (c.as_slice.ensures.value ∙ c.in-Ok-answer.ensures.reply))
       c.in-Ok-write_whole.ensures.all;
   told = c.write_whole.ensures.told ∙ c.lines.invariant.told;
-  later = omega (arith, c.write_whole.ensures.cause.later);
+  later = search rules;
   few = omega (arith, c.in-Ok-answer.ensures.count, c.first_line.ensures.shorter);
 }
