@@ -3,6 +3,7 @@
 ghost use Rattle.std.specs.Prelude.{◌≡◌, None};
 ghost use Rattle.std.specs.Io.{ReadsAtMost};
 
+use crate::faults::Faults;
 use crate::source::Source;
 use crate::trouble::Trouble;
 use std::fs;
@@ -16,17 +17,19 @@ pub struct LazyFileSource<'a, R: Files> {
     rt: &'a R,
     name: &'a str,
     file: Option<R::File>,
-    faults: u64,
+    faults: Faults,
 }
 
 impl<'a, R: Files> LazyFileSource<'a, R> {
-    /// A source of the bytes of the file `name`, which isn't opened yet.
-    pub fn new(rt: &'a R, name: &'a str) -> LazyFileSource<'a, R> {
+    /// A source of the bytes of the file `name`, which isn't opened yet; there was no fault.
+    pub fn new(rt: &'a R, name: &'a str) -> LazyFileSource<'a, R>
+        ensures { result.faults ≡ 0 }
+    {
         LazyFileSource {
             rt,
             name,
             file: None,
-            faults: 0,
+            faults: Faults::new(),
         }
     }
 
@@ -53,10 +56,7 @@ impl<R: Files> Source for LazyFileSource<'_, R> {
     fn read(&mut self, into: &mut [u8]) -> Result<usize, Trouble> {
         match self.read_on(into) {
             Ok(count) => Ok(count),
-            Err(_) => {
-                self.faults = self.faults.saturating_add(1);
-                Err(Trouble::Failed)
-            }
+            Err(_) => Err(self.faults.fail()),
         }
     }
 }

@@ -1,6 +1,7 @@
 //! Sources and sinks of bytes, with a count of faults each, and what is read from and written to them.
 #![tactic(auto)]
 
+mod faults;
 mod file;
 mod limits;
 mod line_so_far;
@@ -19,6 +20,7 @@ mod trouble;
 mod window;
 mod write;
 
+pub use faults::Faults;
 pub use file::LazyFileSource;
 pub use limits::Limits;
 pub use lines::{Line, Lines};

@@ -1,7 +1,8 @@
 //! Standard input and standard output.
 
-ghost use Rattle.std.specs.Prelude.{None};
+ghost use Rattle.std.specs.Prelude.{◌≡◌, None};
 
+use crate::faults::Faults;
 use crate::sink::Sink;
 use crate::source::Source;
 use crate::trouble::Trouble;
@@ -11,13 +12,18 @@ use std::io::{self, Print, Read, Write};
 #[derive(Drop)]
 pub struct StdSource<R: Read + Drop> {
     reader: R,
-    faults: u64,
+    faults: Faults,
 }
 
 impl<R: Read + Drop> StdSource<R> {
-    /// A source that reads from `reader`, as `rt.reader()` gives it; nothing is read yet.
-    pub fn new(reader: R) -> StdSource<R> {
-        StdSource { reader, faults: 0 }
+    /// A source that reads from `reader`, as `rt.reader()` gives it; nothing is read yet, and there was no fault.
+    pub fn new(reader: R) -> StdSource<R>
+        ensures { result.faults ≡ 0 }
+    {
+        StdSource {
+            reader,
+            faults: Faults::new(),
+        }
     }
 }
 
@@ -29,10 +35,7 @@ impl<R: Read + Drop> Source for StdSource<R> {
     fn read(&mut self, into: &mut [u8]) -> Result<usize, Trouble> {
         match self.reader.read(into) {
             Ok(count) => Ok(count),
-            Err(_) => {
-                self.faults = self.faults.saturating_add(1);
-                Err(Trouble::Failed)
-            }
+            Err(_) => Err(self.faults.fail()),
         }
     }
 }
@@ -42,13 +45,18 @@ impl<R: Read + Drop> Source for StdSource<R> {
 #[derive(Drop)]
 pub struct StdSink<'a, R: Print> {
     rt: &'a R,
-    faults: u64,
+    faults: Faults,
 }
 
 impl<'a, R: Print> StdSink<'a, R> {
-    /// A sink that writes to the standard output of `rt`; nothing is written yet.
-    pub fn new(rt: &'a R) -> StdSink<'a, R> {
-        StdSink { rt, faults: 0 }
+    /// A sink that writes to the standard output of `rt`; nothing is written yet, and there was no fault.
+    pub fn new(rt: &'a R) -> StdSink<'a, R>
+        ensures { result.faults ≡ 0 }
+    {
+        StdSink {
+            rt,
+            faults: Faults::new(),
+        }
     }
 }
 
@@ -67,7 +75,6 @@ impl<R: Print> Sink for StdSink<'_, R> {
         {
             return Ok(count);
         }
-        self.faults = self.faults.saturating_add(1);
-        Err(Trouble::Failed)
+        Err(self.faults.fail())
     }
 }
