@@ -1,11 +1,14 @@
-ghost use Rattle.std.specs.Prelude.{◌≡◌, ◌↔◌, IfOk, IsErrOf, IsFalse, IsTrue};
+ghost use Rattle.std.specs.Prelude.{◌≡◌, ◌↔◌, refl, IfOk, IsErrOf, IsFalse, IsTrue};
 ghost use Rattle.std.specs.List.{list_all};
+ghost use Rattle.std.specs.Ordering.{as_partial_cmp};
+ghost use Rattle.std.specs.Cmp.{partial_equiv_from_equiv};
 ghost use Rattle.dbn_value.specs.Text.{is_name_byte, is_identifier, is_operator, is_name, IsName};
-ghost use Rattle.dbn_value.specs.Names.{name_eq};
+ghost use Rattle.dbn_value.specs.Names.{name_eq, name_cmp, name_equiv, name_partial, name_total, names_tie};
 
 use super::copying::CopyIn;
 use super::value::ValueFault;
 use std::alloc::{AllocError, Global};
+use std::cmp::Ordering;
 use std::marker::Model;
 
 /// A name: an ASCII letter followed by ASCII letters, digits, `_` and `-`, or one of the operators `=`, `!=`, `<`, `<=`, `>`, `>=`.
@@ -103,7 +106,7 @@ impl Name {
         ensures value { result ≡ name_eq self.now other.now }
         ensures equal { IsTrue result ↔ (self.now ≡ other.now) }
     {
-        self.bytes == other.bytes
+        self == other
     }
 
     /// The bytes of the name.
@@ -112,6 +115,44 @@ impl Name {
         ensures name { IsName result.now }
     {
         self.bytes.as_slice()
+    }
+}
+
+impl PartialEq for Name {
+    ghost eq = { name_eq };
+
+    ghost laws = { partial_equiv_from_equiv name_equiv };
+
+    fn eq(&self, other: &Name) -> bool {
+        self.bytes == other.bytes
+    }
+}
+
+impl Eq for Name {
+    ghost laws = { name_equiv };
+}
+
+impl PartialOrd for Name {
+    ghost partial_cmp = { as_partial_cmp name_cmp };
+
+    ghost laws = { name_partial };
+
+    fn partial_cmp(&self, other: &Name) -> Option<Ordering> {
+        Some(self.cmp(other))
+    }
+}
+
+impl Ord for Name {
+    ghost cmp = { name_cmp };
+
+    ghost total = { name_total };
+
+    ghost matches_partial_cmp = { λ x y. refl };
+
+    ghost matches_eq = { names_tie };
+
+    fn cmp(&self, other: &Name) -> Ordering {
+        self.bytes.cmp(&other.bytes)
     }
 }
 

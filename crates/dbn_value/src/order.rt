@@ -1,8 +1,10 @@
 ghost use Rattle.std.specs.Prelude.{◌≡◌, refl};
 ghost use Rattle.std.specs.Ordering.{eq_by_cmp, as_partial_cmp};
-ghost use Rattle.std.specs.Cmp.{partial_equiv_from_equiv, eq_by_cmp_equiv, partial_order_from_total};
+ghost use Rattle.std.specs.Cmp.{partial_equiv_from_equiv, eq_by_cmp_equiv, partial_order_from_total, partial_order_from_agreeing_total};
 ghost use Rattle.dbn_value.specs.Order.{value_cmp, value_total};
+ghost use Rattle.dbn_value.specs.Variables.{var_cmp, var_total, vars_tie};
 
+use super::term::Var;
 use super::value::Value;
 use std::cmp::Ordering;
 
@@ -56,5 +58,30 @@ impl Ord for Value {
 
     fn cmp(&self, other: &Value) -> Ordering {
         compare(self, other)
+    }
+}
+
+impl PartialOrd for Var {
+    ghost partial_cmp = { as_partial_cmp var_cmp };
+
+    ghost laws = { partial_order_from_agreeing_total var_cmp var_total (λ x y. refl) vars_tie };
+
+    fn partial_cmp(&self, other: &Var) -> Option<Ordering> {
+        Some(self.cmp(other))
+    }
+}
+
+impl Ord for Var {
+    ghost cmp = { var_cmp };
+
+    ghost total = { var_total };
+
+    ghost matches_partial_cmp = { λ x y. refl };
+
+    ghost matches_eq = { vars_tie };
+
+    fn cmp(&self, other: &Var) -> Ordering {
+        let names = self.name.cmp(&other.name);
+        names.then(self.mark.cmp(&other.mark))
     }
 }

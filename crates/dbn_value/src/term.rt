@@ -7,7 +7,7 @@ use super::value::{ColType, Value};
 use std::alloc::{AllocError, Global};
 
 /// A variable: its name, and a mark that tells renamed variables apart (0 in the text of a net).
-#[derive(Debug, Drop)]
+#[derive(Debug, PartialEq, Eq, Drop)]
 pub struct Var {
     pub name: Name,
     pub mark: u64,
@@ -39,7 +39,7 @@ impl Var {
         ensures value { result ≡ var_eq self.now other.now }
         ensures equal { IsTrue result ↔ (self.now ≡ other.now) }
     {
-        self.name.same(&other.name) && self.mark == other.mark
+        self == other
     }
 }
 
