@@ -1,6 +1,8 @@
 -- Counted rows after a change: they stay counted, and the count of each row.
-use Rattle.std.proofs.Common.{◌≡◌, ℕ, ◌+◌, ◌-◌, ◌<◌, ◌≤◌, ◌^◌, Bool, true, false, cond, eqb, List, refl, sym, ap, ◌∙◌, subst, Option, Some, None, Result, Ok, Err, arith, OnOk, OnErr, if◌then◌else◌, ◌&&◌, [], length, set, ⊎_elim, get_or-set_same, get_or-set_other}
+use Rattle.std.proofs.Common.{◌≡◌, ℕ, zero, suc, ◌∷◌, ◌++◌, append_assoc, inl, inr, replicate, ◌+◌, ◌-◌, ◌<◌, ◌≤◌, ◌^◌, Bool, true, false, cond, eqb, List, refl, sym, ap, ◌∙◌, subst, Option, Some, None, Result, Ok, Err, arith, OnOk, OnErr, if◌then◌else◌, ◌&&◌, [], length, set, ⊎_elim, get_or-set_same, get_or-set_other}
 use Rattle.std.specs.declared.cmp.Ordering.{Ordering}
+use Rattle.std.specs.declared.cmp.Ordering.TheVariants.{Less, Greater}
+use Rattle.std.specs.Ordering.{ordering_reverse, match_ordering}
 use Rattle.std.specs.Cmp.{IsTotalOrder}
 use Rattle.std.specs.Option.{unwrap_or, IfSome, IsSome}
 use Rattle.std.specs.List.Sorted.{IsStrictlySortedBy}
@@ -8,7 +10,10 @@ use Rattle.std.specs.Map.{lookup, remove_entry, set_value, keys_of}
 use Rattle.std.specs.BTreeMap.{is_at, insert_entry}
 use Rattle.std.proofs.lemmas.Bool.{eqb-true, eqb-false, cond_both, cases_eq, eq-eqb, ne_eqb}
 use Rattle.dbn_value.proofs.EntryLaws.{sorted_insert_entry, sorted_remove_entry, sorted_set_value, lookup_insert_entry, lookup_remove_entry, lookup_set_value}
-use Rattle.dbn_marking.specs.Counts.{IsCounted, count_of, added, taken, count_at}
+use Rattle.dbn_value.specs.Members.{In}
+use Rattle.dbn_value.proofs.AscendingLaws.{sorted_nil, head_below}
+use Rattle.std.proofs.lemmas.Map.Keys.{sorted_tail}
+use Rattle.dbn_marking.specs.Counts.{IsCounted, IsMarking, place_of, count_of, added, taken, count_at, with_tokens, without_tokens}
 
 -- a count that the place keeps
 abbrev IsFit : ℕ → Type 0
@@ -31,11 +36,15 @@ some_found None many some there = absurd (omega arith)
 some_found (Some n) many some there = refl
 
 module _ {K : Type 0} {R : K → K → Ordering} where
+  counted_nothing : IsCounted R []
+  counted_nothing = record { ascends = sorted_nil R; within = λ row. tt }
+
   pub count_small : (held : List (K × ℕ)) (row : K) → IsCounted R held → count_of R held row < 2 ^ 32
   count_small held row counted = small_count (lookup (is_at (R row)) held) (counted.within row)
 
 module _ {K : Type 0} {R : K → K → Ordering} (o : IsTotalOrder R) where
-  counted_insert : (held : List (K × ℕ)) (row : K) (n : ℕ) → IsCounted R held → 0 < n → n < 2 ^ 32 → IsCounted R (insert_entry R held row n)
+  -- a count set
+  pub counted_insert : (held : List (K × ℕ)) (row : K) (n : ℕ) → IsCounted R held → 0 < n → n < 2 ^ 32 → IsCounted R (insert_entry R held row n)
   counted_insert held row n counted some small = record {
     ascends = sorted_insert_entry o row n held counted.ascends;
     within = λ q. subst (λ found. IfSome found IsFit) (sym (lookup_insert_entry o q row n held)) (fit_changed (is_at (R row) q) n _ (some, small) (counted.within q));
@@ -105,3 +114,74 @@ count_at_changed R marking place changed row n within each p q =
     ∙ ap (λ b. cond (b && is_at (R row) q) n (count_at R marking place q)) (sym (eq-eqb place place refl))))
     (λ other. ap (λ held. count_of R held q) (get_or-set_other marking place p changed [] other) ∙ ap (λ b. cond (b && is_at (R row) q) n (count_at R marking p q)) (sym (ne_eqb p place other)))
     (cases_eq p place)
+
+-- ---- markings
+
+module _ {K : Type 0} (R : K → K → Ordering) where
+  pub marking_empty : (n : ℕ) → IsMarking R (replicate n [])
+  marking_empty zero = tt
+  marking_empty (suc n) = (counted_nothing, marking_empty n)
+
+  pub marking_more : (marking : List (List (K × ℕ))) → IsMarking R marking → IsMarking R (marking ++ [] ∷ [])
+  marking_more [] is = (counted_nothing, tt)
+  marking_more (held ∷ marking) is = (is.0, marking_more marking is.1)
+
+  pub place_counted : (marking : List (List (K × ℕ))) (place : ℕ) → IsMarking R marking → IsCounted R (place_of marking place)
+  place_counted [] place is = counted_nothing
+  place_counted (held ∷ marking) zero is = is.0
+  place_counted (held ∷ marking) (suc place) is = place_counted marking place is.1
+
+  pub marking_set : (marking : List (List (K × ℕ))) (place : ℕ) (held : List (K × ℕ)) → IsMarking R marking → IsCounted R held → IsMarking R (set marking place held)
+  marking_set [] place held is counted = tt
+  marking_set (old ∷ marking) zero held is counted = (counted, is.1)
+  marking_set (old ∷ marking) (suc place) held is counted = (is.0, marking_set marking place held is.1 counted)
+
+  pub count_at_small : (marking : List (List (K × ℕ))) (place : ℕ) (row : K) → IsMarking R marking → count_at R marking place row < 2 ^ 32
+  count_at_small marking place row is = count_small (place_of marking place) row (place_counted marking place is)
+
+-- one giving and one taking: the marking stays counted, and the count of each row in each place
+module _ {K : Type 0} {R : K → K → Ordering} (o : IsTotalOrder R) where
+  pub marking_given : (marking : List (List (K × ℕ))) (place : ℕ) (row : K) (many : ℕ) → IsMarking R marking → 0 < many → count_at R marking place row + many < 2 ^ 32
+      → IsMarking R (with_tokens R marking place row many)
+  marking_given marking place row many is some small =
+      marking_set R marking place _ is (counted_insert o (place_of marking place) row (count_at R marking place row + many) (place_counted R marking place is) (omega arith) small)
+
+  pub marking_left : (marking : List (List (K × ℕ))) (place : ℕ) (row : K) (many : ℕ) → IsMarking R marking → 0 < many → many ≤ count_at R marking place row
+      → IsMarking R (without_tokens R marking place row many)
+  marking_left marking place row many is some there =
+      marking_set R marking place _ is (counted_taken o (place_of marking place) row many (place_counted R marking place is) some there)
+
+  pub count_given : (marking : List (List (K × ℕ))) (place : ℕ) (row : K) (many : ℕ) → place < length marking
+      → (p : ℕ) (q : K) → count_at R (with_tokens R marking place row many) p q ≡ (if eqb p place && is_at (R row) q then count_at R marking place row + many else count_at R marking p q)
+  count_given marking place row many within p q =
+      count_at_changed R marking place (added R (place_of marking place) row many) row (count_at R marking place row + many) within
+      (λ r. count_of_added o (place_of marking place) row r many) p q
+
+  pub count_left : (marking : List (List (K × ℕ))) (place : ℕ) (row : K) (many : ℕ) → IsMarking R marking → place < length marking → 0 < many → many ≤ count_at R marking place row
+      → (p : ℕ) (q : K) → count_at R (without_tokens R marking place row many) p q ≡ (if eqb p place && is_at (R row) q then count_at R marking place row - many else count_at R marking p q)
+  count_left marking place row many is within some there p q =
+      count_at_changed R marking place (taken R (place_of marking place) row many) row (count_at R marking place row - many) within
+      (λ r. count_of_taken o (place_of marking place) row r many (place_counted R marking place is).ascends some there) p q
+
+-- ---- copies
+
+module _ {K X : Type 0} {R : K → K → Ordering} (o : IsTotalOrder R) where
+  -- a key behind all others comes last
+  insert_entry_last : (es rest : List (K × X)) (k : K) (v : X) → IsStrictlySortedBy R (keys_of (es ++ (k, v) ∷ rest)) → insert_entry R es k v ≡ es ++ (k, v) ∷ []
+  insert_entry_last [] rest k v s = refl
+  insert_entry_last (e ∷ es) rest k v s =
+      let below : R e.0 k ≡ Less = head_below R e.0 (keys_of (es ++ (k, v) ∷ rest)) k s (key_there es) in
+      let above : R k e.0 ≡ Greater = o.antisymm k e.0 ∙ ap ordering_reverse below in
+      ap (λ r. match_ordering r ((k, v) ∷ e ∷ es) ((e.0, v) ∷ es) (e ∷ insert_entry R es k v)) above
+      ∙ ap (λ l. e ∷ l) (insert_entry_last es rest k v (sorted_tail R e.0 (keys_of (es ++ (k, v) ∷ rest)) s))
+    where
+      key_there : (before : List (K × X)) → In k (keys_of (before ++ (k, v) ∷ rest))
+      key_there [] = inl refl
+      key_there (f ∷ before) = inr (key_there before)
+
+  -- one more entry is copied
+  pub copied_more : (copied rest whole new : List (K × X)) (k : K) (v : X) → IsStrictlySortedBy R (keys_of whole) → copied ++ (k, v) ∷ rest ≡ whole
+      → new ≡ insert_entry R copied k v → new ++ rest ≡ whole
+  copied_more copied rest whole new k v s so_far is =
+      let last = insert_entry_last copied rest k v (subst (λ es. IsStrictlySortedBy R (keys_of es)) (sym so_far) s) in
+      ap (λ es. es ++ rest) (is ∙ last) ∙ append_assoc copied ((k, v) ∷ []) rest ∙ so_far

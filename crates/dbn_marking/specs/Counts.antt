@@ -2,6 +2,7 @@
 use Rattle.std.specs.Prelude.{ℕ, ◌+◌, ◌-◌, ◌<◌, ◌^◌, List, [], if◌then◌else◌, ◌==◌, slice_index_or, slice_set}
 use Rattle.std.specs.declared.cmp.Ordering.{Ordering}
 use Rattle.std.specs.Option.{unwrap_or, IfSome}
+use Rattle.std.specs.List.{AllByRecursion}
 use Rattle.std.specs.List.Sorted.{IsStrictlySortedBy}
 use Rattle.std.specs.Map.{lookup, remove_entry, set_value, keys_of}
 use Rattle.std.specs.BTreeMap.{is_at, insert_entry}
@@ -29,6 +30,10 @@ module _ {K : Type 0} (R : K → K → Ordering) where
   pub record IsCounted (counted : List (K × ℕ)) : Type 0 where
     pub ascends : IsStrictlySortedBy R (keys_of counted)
     pub within : (row : K) → IfSome (lookup (is_at (R row)) counted) (λ n. (0 < n) × (n < 2 ^ 32))
+
+  -- the rows of each place are counted
+  abbrev pub IsMarking : List (List (K × ℕ)) → Type 0
+  IsMarking marking = AllByRecursion IsCounted marking
 
   -- how many tokens of the row lie in the place
   abbrev pub count_at : List (List (K × ℕ)) → ℕ → K → ℕ

@@ -22,11 +22,11 @@ pub enum AddFault {
 }
 
 /// The greatest count of a row in a place.
-const MAX_COUNT: u64 = 4_294_967_295;
+pub const MAX_COUNT: u64 = 4_294_967_295;
 
 /// The tokens of one place: its rows with their counts.
-#[derive(Drop)]
-pub struct Held<C: Cell> {
+#[derive(Debug, Drop)]
+pub(crate) struct Held<C: Cell> {
     rows: BTreeMap<Row<C>, u64>,
 }
 
@@ -94,6 +94,7 @@ impl<C: Cell> Held<C> {
         ensures limit { IsErrOf result AddFault.CountLimit ↔ (2 ^ 32 ≤ count_of (slice_cmp C.cmp) self.old row + many) }
         ensures held { IsErrOf result AddFault.Memory → count_of (slice_cmp C.cmp) self.old row ≡ 0 }
         ensures err { OnErr result (self.new ≡ self.old) }
+        ensures counted { IsCounted (slice_cmp C.cmp) self.new }
     {
         let count = self.count(&row);
         if count + many > MAX_COUNT {
@@ -112,6 +113,7 @@ impl<C: Cell> Held<C> {
         ensures left { self.new ≡ taken (slice_cmp C.cmp) self.old row.now many }
         ensures counts { (q : List C) → count_of (slice_cmp C.cmp) self.new q ≡ (if is_at (slice_cmp C.cmp row.now) q then count_of (slice_cmp C.cmp) self.old row.now - many else count_of (slice_cmp C.cmp) self.old q) }
         ensures gone { result ≡ (count_of (slice_cmp C.cmp) self.old row.now == many) }
+        ensures counted { IsCounted (slice_cmp C.cmp) self.new }
     {
         let count = self.count(row);
         if count == many {
@@ -122,5 +124,15 @@ impl<C: Cell> Held<C> {
             *held = count - many;
         }
         false
+    }
+}
+
+impl<C: Cell> CopyIn for Held<C> {
+    fn copy_in(&self, alloc: Global) -> Result<Held<C>, AllocError> {
+        let mut rows = BTreeMap::new(alloc);
+        for (row, count) in &self.rows {
+            rows.insert(row.copy_in(alloc)?, *count)?;
+        }
+        Ok(Held { rows })
     }
 }

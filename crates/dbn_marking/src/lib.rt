@@ -4,7 +4,7 @@
 mod held;
 mod marking;
 
-pub use held::{AddFault, CountedRows};
+pub use held::{AddFault, CountedRows, MAX_COUNT};
 pub use marking::Marking;
 
 #[cfg(test)]

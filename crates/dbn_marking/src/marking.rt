@@ -1,17 +1,17 @@
-ghost use Rattle.std.specs.Prelude.{◌≡◌, ◌+◌, ◌-◌, ◌<◌, ◌≤◌, ◌^◌, ◌==◌, ◌&&◌, ◌↔◌, ℕ, List, [], if◌then◌else◌, length, replicate, IfOk, OnOk, OnErr, IsErrOf};
+ghost use Rattle.std.specs.Prelude.{◌≡◌, ◌+◌, ◌-◌, ◌<◌, ◌≤◌, ◌^◌, ◌==◌, ◌&&◌, ◌↔◌, ◌++◌, ◌∷◌, ℕ, List, [], if◌then◌else◌, length, replicate, IfOk, OnOk, OnErr, IsErrOf};
 ghost use Rattle.std.specs.Cmp.Lexicographic.{slice_cmp};
 ghost use Rattle.std.specs.BTreeMap.{is_at};
-ghost use Rattle.dbn_marking.specs.Counts.{place_of, count_at, with_tokens, without_tokens, IsCounted};
+ghost use Rattle.dbn_marking.specs.Counts.{place_of, count_at, with_tokens, without_tokens, IsCounted, IsMarking};
 
 use super::held::{AddFault, CountedRows, Held};
-use dbn_value::{Cell, Row};
+use dbn_value::{Cell, CopyIn, Row};
 use std::alloc::{AllocError, Global};
 use std::collections::BTreeMap;
 use std::marker::Model;
 
 /// A marking: for each place, numbered from 0, the rows that lie there with their counts, each from 1 to 4,294,967,295.
 /// The rows of a place are in the order of the cells.
-#[derive(Drop)]
+#[derive(Debug, Drop)]
 pub struct Marking<C: Cell> {
     places: Vec<Held<C>>,
 }
@@ -19,12 +19,16 @@ pub struct Marking<C: Cell> {
 impl<C: Cell> Model for Marking<C> {
     ghost use Rattle.std.specs.Prelude.{List, ℕ};
     ghost use Rattle.std.specs.Coded.{coded_list, coded×, coded_ℕ};
+    ghost use Rattle.std.specs.Cmp.Lexicographic.{slice_cmp};
+    ghost use Rattle.dbn_marking.specs.Counts.{IsMarking};
 
     ghost Value = { List (List (List C × ℕ)) };
 
     ghost coded = { coded_list (coded_list (coded× (coded_list C.code) coded_ℕ)) };
 
     ghost view = { λ m. m.places.items };
+
+    ghost invariant = { λ m. IsMarking (slice_cmp C.cmp) m.places.items };
 }
 
 impl<C: Cell> Marking<C> {
@@ -32,18 +36,28 @@ impl<C: Cell> Marking<C> {
     pub fn new(alloc: Global, places: usize) -> Result<Marking<C>, AllocError>
         ensures { IfOk result (λ m. m ≡ replicate places []) }
     {
-        let mut held = Vec::new(alloc);
+        let mut held = Vec::with_capacity(alloc, places)?;
         for _ in 0..places {
             held.push(Held::new(alloc))?;
         }
         Ok(Marking { places: held })
     }
 
-    /// How many places there are.
+    /// How many places there are. The rows of each are counted.
     pub fn places(&self) -> usize
-        ensures { result ≡ length self.now }
+        ensures count { result ≡ length self.now }
+        ensures counted { IsMarking (slice_cmp C.cmp) self.now }
     {
         self.places.len()
+    }
+
+    /// Adds a place without tokens behind the others. An error is want of memory, and then nothing changed.
+    pub fn add_place(&mut self, alloc: Global) -> Result<(), AllocError>
+        ensures ok { OnOk result (self.new ≡ self.old ++ [] ∷ []) }
+        ensures err { OnErr result (self.new ≡ self.old) }
+    {
+        self.places.push(Held::new(alloc))?;
+        Ok(())
     }
 
     /// How many tokens of the row lie in the place: at most 4,294,967,295.
@@ -75,7 +89,13 @@ impl<C: Cell> Marking<C> {
 
     /// Adds `many` tokens of the row to the place, and tells whether the row is new there. `CountLimit` comes exactly where
     /// the count would pass 4,294,967,295, and `Memory`, want of memory, only for a row that is new. After both nothing changed.
-    pub fn add(&mut self, place: usize, row: Row<C>, many: u64) -> Result<bool, AddFault>
+    pub fn add(
+        &mut self,
+        _alloc: Global,
+        place: usize,
+        row: Row<C>,
+        many: u64,
+    ) -> Result<bool, AddFault>
         requires place { place < length self.old }
         requires some { 0 < many }
         requires small { many < 2 ^ 32 }
@@ -101,5 +121,15 @@ impl<C: Cell> Marking<C> {
     {
         let held = &mut self.places[place];
         held.take(row, many)
+    }
+}
+
+impl<C: Cell> CopyIn for Marking<C> {
+    fn copy_in(&self, alloc: Global) -> Result<Marking<C>, AllocError> {
+        let mut places = Vec::with_capacity(alloc, self.places.len())?;
+        for held in &self.places {
+            places.push(held.copy_in(alloc)?)?;
+        }
+        Ok(Marking { places })
     }
 }

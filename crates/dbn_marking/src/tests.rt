@@ -19,13 +19,14 @@ fn ints(alloc: Global, numbers: &[i64]) -> Result<Row<Plain>, AllocError> {
 
 /// Adds tokens where the conditions of the call hold, else `None`.
 fn add<C: Cell>(
+    alloc: Global,
     marking: &mut Marking<C>,
     place: usize,
     row: Row<C>,
     many: u64,
 ) -> Option<Result<bool, AddFault>> {
     if place < marking.places() && 0 < many && many < 1 << 32 {
-        Some(marking.add(place, row, many))
+        Some(marking.add(alloc, place, row, many))
     } else {
         None
     }
@@ -62,7 +63,7 @@ fn with_tokens(alloc: Global, tokens: &[(i64, u64)]) -> Result<Marking<Plain>, F
     let mut marking = Marking::new(alloc, 2)?;
     for (number, many) in tokens {
         let row = ints(alloc, &[*number])?;
-        if !matches!(add(&mut marking, 1, row, *many), Some(Ok(_))) {
+        if !matches!(add(alloc, &mut marking, 1, row, *many), Some(Ok(_))) {
             return Err(Fail::new("no tokens"));
         }
     }
@@ -107,13 +108,16 @@ fn the_last_token_takes_the_row(rt: HostRuntime) -> Result<(), Fail> {
 fn the_greatest_count(rt: HostRuntime) -> Result<(), Fail> {
     let alloc = rt.alloc();
     let mut marking = with_tokens(alloc, &[(1, 4_294_967_295)])?;
-    let again = add(&mut marking, 1, ints(alloc, &[1])?, 1);
+    let again = add(alloc, &mut marking, 1, ints(alloc, &[1])?, 1);
     assert_eq!(rt; again, Some(Err(AddFault::CountLimit)));
     assert!(rt; marking.places() == 2);
     assert!(rt; is_list(&marking.rows(alloc, 1)?, &[(1, 4_294_967_295)]));
-    assert_eq!(rt; add(&mut marking, 1, ints(alloc, &[2])?, 1), Some(Ok(true)));
     assert_eq!(rt;
-        add(&mut marking, 1, ints(alloc, &[2])?, 1),
+        add(alloc, &mut marking, 1, ints(alloc, &[2])?, 1),
+        Some(Ok(true))
+    );
+    assert_eq!(rt;
+        add(alloc, &mut marking, 1, ints(alloc, &[2])?, 1),
         Some(Ok(false))
     );
     Ok(())

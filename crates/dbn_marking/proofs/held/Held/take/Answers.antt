@@ -17,3 +17,9 @@ invariant_of-self-2 g c =
     let there : c.args.many ≤ count_of (slice_cmp g.C.Ord.cmp) c.self.inside.rows.entries c.args.row.now = search rules in
     subst (IsCounted (slice_cmp g.C.Ord.cmp)) (sym left)
     (counted_taken (lists_total g.met.C.Ord.total) c.self.inside.rows.entries c.args.row.now c.args.many c.self.invariant c.requires.some there)
+
+pub returns-then-count-many-clause-counted : goal.returns-then-count-many-clause-counted
+returns-then-count-many-clause-counted g c = invariant_of-self g c
+
+pub returns-clause-counted : goal.returns-clause-counted
+returns-clause-counted g c = invariant_of-self-2 g c
