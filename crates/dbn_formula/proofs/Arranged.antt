@@ -241,13 +241,13 @@ bound_alike vars xs ys alike =
     (λ e. let found = any_in (binds vars) xs e in in_any (binds vars) found.0 ys (alike.there found.0 found.1) found.2)
     (λ e. let found = any_in (binds vars) ys e in in_any (binds vars) found.0 xs (alike.back found.0 found.1) found.2)
 
-abbrev SteadyAlike : Formula → Type 0
+abbrev pub SteadyAlike : Formula → Type 0
 SteadyAlike f = (xs ys : List Var) → Alike xs ys → steady f xs ≡ steady f ys
 
 pub alike_self : {A : Type 0} (xs : List A) → Alike xs xs
 alike_self xs = record { there = λ x at. at; back = λ x at. at }
 
-turn_alike : (fs : List Formula) → AllByRecursion SteadyAlike fs → (xs ys : List Var) → Alike xs ys → in_turn (map as_level fs) xs ≡ in_turn (map as_level fs) ys
+pub turn_alike : (fs : List Formula) → AllByRecursion SteadyAlike fs → (xs ys : List Var) → Alike xs ys → in_turn (map as_level fs) xs ≡ in_turn (map as_level fs) ys
 turn_alike [] each xs ys alike = refl
 turn_alike (f ∷ fs) each xs ys alike =
     ap (λ b. b && in_turn (map as_level fs) (xs ++ occurrences f)) (each.0 xs ys alike)

@@ -35,7 +35,7 @@ use Rattle.dbn_formula.proofs.Choices.{choice_out, type_of_bound, entered_binds,
 -- ---- types that agree
 
 -- a variable of the scope whose type agrees has just that type
-agrees_is : (scope : TypedVars) (x : Var) (type : ColType) → binds scope x ≡ true → agree (type_in scope x) (Some type) ≡ true → type_in scope x ≡ Some type
+pub agrees_is : (scope : TypedVars) (x : Var) (type : ColType) → binds scope x ≡ true → agree (type_in scope x) (Some type) ≡ true → type_in scope x ≡ Some type
 agrees_is scope x type b e =
     let own = type_of_bound scope x b in
     own.1 ∙ ap Some (type_same own.0 type (subst (λ o. agree o (Some type) ≡ true) own.1 e))

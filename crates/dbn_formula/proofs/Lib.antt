@@ -1,6 +1,7 @@
 pub mod AnswersLaws
 pub mod ApartLaws
 pub mod ApartMarks
+pub mod ArityKept
 pub mod Arranged
 pub mod Bounded
 pub mod Choices
@@ -15,7 +16,9 @@ pub mod FreeLaws
 pub mod HoldsLaws
 pub mod Induction
 pub mod Maps
+pub mod MoreRelations
 pub mod NamingLaws
+pub mod NoFault
 pub mod NormalAgain
 pub mod NormalAnswers
 pub mod NormalConstants
@@ -28,6 +31,7 @@ pub mod RenameClear
 pub mod RenameFree
 pub mod RenameLaws
 pub mod SafeLaws
+pub mod SizeKept
 pub mod SizeLaws
 pub mod SolutionLaws
 pub mod SolveLaws
@@ -36,8 +40,9 @@ pub mod StaysSafe
 pub mod Trials
 pub mod Truth
 pub mod Turns
-pub mod TypesKept
 pub mod TypeFaults
+pub mod TypesKept
 pub mod TypingLaws
 pub mod VariableLaws
 pub mod Weights
+pub mod WrittenLaws

@@ -24,9 +24,9 @@ use Rattle.dbn_formula.specs.Safe.{safe, steady}
 use Rattle.dbn_formula.specs.Solve.{is_empty}
 use Rattle.dbn_formula.specs.Ready.{AreValued, RowIn, RowsIn, ValuesIn, Ready}
 use Rattle.dbn_formula.specs.Solutions.{solvable, solutions, HasShape, HasShapes, AcceptsQuery, AcceptsSentence, IsSolution}
-use Rattle.dbn_formula.specs.declared.typing.TypeFault.TheVariants.{Arity, TypeClash, Unbound}
 use Rattle.dbn_formula.specs.declared.formula.Formula.{Formula}
 use Rattle.dbn_formula.specs.declared.formula.Formula.TheVariants.{Not}
+use Rattle.dbn_formula.proofs.NoFault.{no_fault}
 use Rattle.dbn_formula.proofs.HoldsLaws.{holds_not}
 use Rattle.dbn_formula.proofs.FreeLaws.{occurrences_not}
 use Rattle.dbn_formula.proofs.ConstantsLaws.{constants_not}
@@ -133,7 +133,7 @@ module _ (rels : Shapes) (scope : TypedVars) (f : Formula) (db : Instance) (fits
 
 -- ---- rows of values for the variables of a query
 
-bind_other : (vars : TypedVars) (row : List Value) (env : Env) (y : Var) → binds vars y ≡ false → lookup (bind vars row env) y ≡ lookup env y
+pub bind_other : (vars : TypedVars) (row : List Value) (env : Env) (y : Var) → binds vars y ≡ false → lookup (bind vars row env) y ≡ lookup env y
 bind_other [] row env y e = refl
 bind_other (x ∷ vars) [] env y e = refl
 bind_other (x ∷ vars) (v ∷ row) env y e =
@@ -142,13 +142,13 @@ bind_other (x ∷ vars) (v ∷ row) env y e =
     bind_other vars row ((x.0, v) ∷ env) y there ∙ ap (λ b. cond b v (lookup env y)) here
 
 -- the row has one value for each variable
-abbrev SameLength : TypedVars → List Value → Type 0
+abbrev pub SameLength : TypedVars → List Value → Type 0
 SameLength [] [] = Unit {0}
 SameLength [] (v ∷ row) = ⊥
 SameLength (x ∷ vars) [] = ⊥
 SameLength (x ∷ vars) (v ∷ row) = SameLength vars row
 
-bind_row : (vars : TypedVars) (row : List Value) (env : Env) → distinct_vars vars ≡ true → SameLength vars row → map (λ x. lookup (bind vars row env) x.0) vars ≡ row
+pub bind_row : (vars : TypedVars) (row : List Value) (env : Env) → distinct_vars vars ≡ true → SameLength vars row → map (λ x. lookup (bind vars row env) x.0) vars ≡ row
 bind_row [] [] env once same = refl
 bind_row [] (v ∷ row) env once same = absurd same
 bind_row (x ∷ vars) [] env once same = absurd same
@@ -170,7 +170,7 @@ length_of_map (x ∷ vars) h = length_of_map vars h
 
 module _ {A B : Type 0} where
   -- two maps over a list that are equal are equal at each member
-  maps_at : (p q : A → B) (xs : List A) (x : A) → map p xs ≡ map q xs → In x xs → p x ≡ q x
+  pub maps_at : (p q : A → B) (xs : List A) (x : A) → map p xs ≡ map q xs → In x xs → p x ≡ q x
   maps_at p q [] x e at = absurd at
   maps_at p q (y ∷ ys) x e (inl here) = let first : p y ≡ q y = head_same (p y) (q y) (map p ys) (map q ys) e in ap p here ∙ first ∙ ap q (sym here)
     where
@@ -181,12 +181,12 @@ module _ {A B : Type 0} where
       tail_same : (a b : B) (ks ls : List B) → a ∷ ks ≡ b ∷ ls → ks ≡ ls
       tail_same a b ks ls e = cc
 
-  maps_from : (p q : A → B) (xs : List A) → ((x : A) → In x xs → p x ≡ q x) → map p xs ≡ map q xs
+  pub maps_from : (p q : A → B) (xs : List A) → ((x : A) → In x xs → p x ≡ q x) → map p xs ≡ map q xs
   maps_from p q [] same = refl
   maps_from p q (x ∷ xs) same = ap (λ b. b ∷ map p xs) (same x (inl refl)) ∙ ap (λ l. q x ∷ l) (maps_from p q xs (λ y at. same y (inr at)))
 
 -- a variable of a list without repeats has its own type in it
-own_type : (vars : TypedVars) (y : Var × ColType) → distinct_vars vars ≡ true → In y vars → type_in vars y.0 ≡ Some y.1
+pub own_type : (vars : TypedVars) (y : Var × ColType) → distinct_vars vars ≡ true → In y vars → type_in vars y.0 ≡ Some y.1
 own_type [] y once at = absurd at
 own_type (z ∷ vars) y once (inl here) = subst (λ (w : Var × ColType). type_in (z ∷ vars) w.0 ≡ Some w.1) (sym here) (ap (λ b. cond b (Some z.1) (type_in vars z.0)) (var_itself z.0))
 own_type (z ∷ vars) y once (inr there) =
@@ -202,21 +202,13 @@ cells_of dom (x ∷ vars) h each = (each x (inl refl), cells_of dom vars h (λ y
 some_same : {A : Type 0} (a b : A) → Some a ≡ Some b → a ≡ b
 some_same a b e = cc
 
--- no fault of types
-no_fault : (arity types bound : Bool) → (if not arity then Some Arity else if not types then Some TypeClash else if not bound then Some Unbound else None) ≡ None
-    → (types ≡ true) × (bound ≡ true)
-no_fault true true true e = (refl, refl)
-no_fault true true false e = cc
-no_fault true false bound e = cc
-no_fault false types bound e = cc
-
 -- ---- queries
 
 module _ (rels : Shapes) (vars : TypedVars) (f : Formula) (db : Instance) (accepted : AcceptsQuery rels vars f) (fits : HasShapes rels db) where
-  sound_types : (types_fit rels f vars ≡ true) × (all_bound f vars ≡ true)
-  sound_types = no_fault (arity_fits rels f) (types_fit rels f vars) (all_bound f vars) accepted.typed
+  pub sound_types : (types_fit rels f vars ≡ true) × (all_bound f vars ≡ true)
+  sound_types = let all = no_fault rels f vars accepted.typed in (all.1, all.2)
 
-  query_solves : Solves (domain f db) db rels (rows_in f rels db fits) (solvable f) []
+  pub query_solves : Solves (domain f db) db rels (rows_in f rels db fits) (solvable f) []
   query_solves = solves rels vars f db fits sound_types.0 sound_types.1 accepted.is_safe
 
   pub answer_solved : (row : List Value) → In row (answers f vars db) → IsSolution f vars db row
@@ -250,11 +242,27 @@ module _ (rels : Shapes) (vars : TypedVars) (f : Formula) (db : Instance) (accep
       subst (λ type. In (lookup g x.0) (domain f db type)) (some_same value.type x.1 (sym value.is ∙ own_type vars x accepted.once member)) value.within) in
       subst (λ r. In r (answers f vars db)) (sym is) (answers_in f vars db cells within holds_t)
 
+  -- the rows of environments for which the solvable formula holds
+  pub answer_holds : (row : List Value) → In row (answers f vars db) → (t : Env) × (holds_over (domain f db) db (solvable f) t ≡ true) × (row ≡ map (λ x. lookup t x.0) vars)
+  answer_holds row at = let found = answer_solved row at in (found.0, (query_solves.sound found.0 found.1).holds, found.2)
+
+  pub holds_answer : (t : Env) → holds_over (domain f db) db (solvable f) t ≡ true → In (map (λ x. lookup t x.0) vars) (answers f vars db)
+  holds_answer t e =
+      let found = query_solves.complete t (record { each = λ x b. absurd (true≢false (sym b)) }) e in
+      let sound = query_solves.sound found.env found.at in
+      solution_answers (map (λ x. lookup t x.0) vars) (
+        found.env,
+        found.at,
+        maps_from (λ x. lookup t x.0) (λ x. lookup found.env x.0) vars (λ x within.
+            found.keeps.each x.0 (sound.step.new x.0 ((solvable_free f).back x.0 (accepted.all_free x.0 (in_bound vars x within))))),
+      )
+
 -- ---- sentences
 
 pub sentence_solved : (rels : Shapes) (f : Formula) (db : Instance) → AcceptsSentence rels f → HasShapes rels db → holds f db [] ≡ is_empty (solutions (Not f) db)
 sentence_solved rels f db accepted fits =
-    let types = no_fault (arity_fits rels f) (types_fit rels f []) (all_bound f []) accepted.typed in
+    let all = no_fault rels f [] accepted.typed in
+    let types : (types_fit rels f [] ≡ true) × (all_bound f [] ≡ true) = (all.1, all.2) in
     let dom : Domain = domain (Not f) db in
     let closed : all_bound (Not f) [] ≡ true = ap (list_all (binds [])) (occurrences_not f) ∙ types.1 in
     let solve : Solves dom db rels (rows_in (Not f) rels db fits) (solvable (Not f)) [] =

@@ -40,7 +40,7 @@ use Rattle.dbn_formula.proofs.Choices.{KeepsValues, Choice, choice_out, choice_i
 use Rattle.dbn_formula.proofs.Bounded.{bounded, inner_scope, joined}
 use Rattle.dbn_formula.proofs.Environments.{Step, Found, in_only_if, only_if_in, keeps_itself, step_none, step_then, step_alike, value_kept, term_sound, term_complete, matched_sound, matched_complete, lookup_dropped, bound_dropped, dropped_bound}
 
-empty_is : {A : Type 0} (xs : List A) → is_empty xs ≡ true → (x : A) → In x xs → ⊥
+pub empty_is : {A : Type 0} (xs : List A) → is_empty xs ≡ true → (x : A) → In x xs → ⊥
 empty_is [] e x at = at
 empty_is (y ∷ ys) e x at = true≢false (sym e)
 
@@ -56,7 +56,7 @@ some_same : {A : Type 0} (a b : A) → Some a ≡ Some b → a ≡ b
 some_same a b e = cc
 
 -- a quantified variable with a value inside its quantifier has it in the domain of its own type
-own_domain : (dom : Domain) (vars scope : TypedVars) (y : Var × ColType) (v : Value) → distinct_vars vars ≡ true → In y vars → IsValued dom (entered vars scope) (term.Var y.0) v → In v (dom y.1)
+pub own_domain : (dom : Domain) (vars scope : TypedVars) (y : Var × ColType) (v : Value) → distinct_vars vars ≡ true → In y vars → IsValued dom (entered vars scope) (term.Var y.0) v → In v (dom y.1)
 own_domain dom vars scope y v once at valued =
     subst (λ type. In v (dom type)) (some_same valued.type y.1 (sym valued.is ∙ entered_own vars scope y once at)) valued.within
 

@@ -16,3 +16,4 @@ pub mod Solve
 pub mod Typing
 pub mod Variables
 pub mod Weight
+pub mod Written

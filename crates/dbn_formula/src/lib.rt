@@ -12,6 +12,7 @@ mod safety_laws;
 #[cfg(test)]
 mod tests;
 mod typing;
+mod typing_laws;
 mod variables;
 
 pub use apart::rename_apart;
@@ -23,8 +24,12 @@ pub use laws::{
 pub use normal_form::normal;
 pub use safety::safe;
 pub use safety_laws::{
-    any_safe_conjunct_first, arranging_keeps, renaming_keeps, safe_formulas_are_bounded,
+    answers_are_what_holds, any_safe_conjunct_first, arranging_keeps, renaming_keeps, safe_formulas_are_bounded,
     safe_formulas_are_solved, safe_stays_safe, solutions_are_sound_and_complete,
 };
 pub use typing::{TypeFault, type_check};
+pub use typing_laws::{
+    more_relations_change_no_types, solving_keeps_arity, solving_keeps_size,
+    typed_formulas_are_closed,
+};
 pub use variables::free;

@@ -6,7 +6,7 @@ ghost use Rattle.dbn_formula.specs.declared.formula.Formula.{Formula};
 ghost use Rattle.dbn_formula.specs.declared.formula.Formula.TheVariants.{And, Not};
 ghost use Rattle.dbn_formula.specs.Variables.{TypedVars};
 ghost use Rattle.dbn_formula.specs.Holds.{Env, Domain, Instance, lookup, holds_over};
-ghost use Rattle.dbn_formula.specs.Answers.{constants, holds, answers};
+ghost use Rattle.dbn_formula.specs.Answers.{constants, domain, holds, answers};
 ghost use Rattle.dbn_formula.specs.Free.{free, occurrences};
 ghost use Rattle.dbn_formula.specs.Apart.{renamed};
 ghost use Rattle.dbn_formula.specs.Typing.{Shapes};
@@ -14,7 +14,7 @@ ghost use Rattle.dbn_formula.specs.Distinct.{distinct};
 ghost use Rattle.dbn_formula.specs.Safe.{safe, steady, clear, arranged};
 ghost use Rattle.dbn_formula.specs.Solve.{is_empty, is_bound, solutions_over};
 ghost use Rattle.dbn_formula.specs.Ready.{AreValued, RowsIn, Ready};
-ghost use Rattle.dbn_formula.specs.Solutions.{solutions, HasShapes, AcceptsQuery, AcceptsSentence, IsSolution};
+ghost use Rattle.dbn_formula.specs.Solutions.{solvable, solutions, HasShapes, AcceptsQuery, AcceptsSentence, IsSolution};
 
 /// A formula that is renamed apart says the same, over every domain, and has the same free variables and constants. No
 /// quantifier of it names a variable twice, or one that is free or quantified elsewhere.
@@ -83,4 +83,14 @@ pub fn safe_formulas_are_solved()
         → (row : List Value) → In row (answers f vars db) → IsSolution f vars db row }
     ensures sentences { (rels : Shapes) (f : Formula) (db : Instance) → AcceptsSentence rels f → HasShapes rels db
         → holds f db [] ≡ is_empty (solutions (Not f) db) }
+{}
+
+/// The answers of an accepted query by what holds: they are the rows that the query's variables have in the environments for
+/// which the formula holds as it is solved.
+pub fn answers_are_what_holds()
+    ensures holding { (rels : Shapes) (vars : TypedVars) (f : Formula) (db : Instance) → AcceptsQuery rels vars f → HasShapes rels db
+        → (row : List Value) → In row (answers f vars db)
+        → (t : Env) × (holds_over (domain f db) db (solvable f) t ≡ true) × (row ≡ map (λ x. lookup t x.0) vars) }
+    ensures rows { (rels : Shapes) (vars : TypedVars) (f : Formula) (db : Instance) → AcceptsQuery rels vars f → HasShapes rels db
+        → (t : Env) → holds_over (domain f db) db (solvable f) t ≡ true → In (map (λ x. lookup t x.0) vars) (answers f vars db) }
 {}
