@@ -5,6 +5,7 @@ pub mod MemberLaws
 pub mod Names
 pub mod Numbers
 pub mod Rows
+pub mod Scopes
 pub mod SetLaws
 pub mod Spellings
 pub mod Texts

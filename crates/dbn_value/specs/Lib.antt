@@ -6,6 +6,7 @@ pub mod Order
 pub mod Picked
 pub mod Scope
 pub mod Sets
+pub mod Shape
 pub mod Spelling
 pub mod Text
 pub mod Variables

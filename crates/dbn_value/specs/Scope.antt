@@ -1,5 +1,5 @@
 -- Values of variables, and what a term stands for under them. One rule for formulas, patterns, arguments and guards.
-use Rattle.std.specs.Prelude.{pos, if◌then◌else◌, List, [], ◌∷◌}
+use Rattle.std.specs.Prelude.{pos, if◌then◌else◌, List, [], ◌∷◌, Option, Some, None}
 use Rattle.dbn_value.specs.Variables.{var_eq}
 use Rattle.dbn_value.specs.declared.value.Value.{Value}
 use Rattle.dbn_value.specs.declared.value.Value.TheVariants.{Int}
@@ -30,3 +30,13 @@ abbrev pub bind : TypedVars → List Value → Env → Env
 bind [] row env = env
 bind (x ∷ vars) [] env = env
 bind (x ∷ vars) (v ∷ row) env = bind vars row ((x.0, v) ∷ env)
+
+-- what the first entry of the variable says, where it has one
+abbrev pub entry_of : Env → Var → Option Value
+entry_of [] x = None
+entry_of (entry ∷ env) x = if var_eq x entry.0 then Some entry.1 else entry_of env x
+
+-- what a term stands for, where it is a constant or a variable with an entry
+abbrev pub known_value : Env → Term → Option Value
+known_value env (term.Var x) = entry_of env x
+known_value env (term.Const v) = Some v

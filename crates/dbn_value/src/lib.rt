@@ -9,6 +9,7 @@ mod name;
 mod order;
 mod reading;
 mod row;
+mod scope;
 mod spelling;
 mod term;
 mod value;
@@ -20,7 +21,8 @@ pub use lists::{Bytes, Nums, Rows, RowsOf, Shape, Shapes, Terms, TypedNames, Typ
 pub use name::Name;
 pub use order::compare;
 pub use reading::read_value;
-pub use row::{Row, pick};
+pub use row::{Row, has_shape, pick};
+pub use scope::{row_of, value_of};
 pub use spelling::{in_range, spell};
 pub use term::{Cmp, Term, Var};
 pub use value::{ColType, IdNo, MAX_TEXT_BYTES, Txt, Value, ValueFault};

@@ -1,11 +1,14 @@
-ghost use Rattle.std.specs.Prelude.{◌≡◌, ◌<◌, refl, length, IfOk, All};
+ghost use Rattle.std.specs.Prelude.{◌≡◌, ◌↔◌, ◌<◌, refl, length, IfOk, IsTrue, All};
 ghost use Rattle.std.specs.Ordering.{eq_by_cmp, as_partial_cmp};
 ghost use Rattle.std.specs.Cmp.{partial_equiv_from_equiv, eq_by_cmp_equiv, partial_order_from_total};
 ghost use Rattle.std.specs.Cmp.Lexicographic.{slice_cmp, lists_total};
 ghost use Rattle.dbn_value.specs.Picked.{picked};
+ghost use Rattle.dbn_value.specs.Shape.{HasShape};
 
 use super::cell::Cell;
 use super::copying::CopyIn;
+use super::lists::Shape;
+use super::value::ColType;
 use std::alloc::{AllocError, Global};
 use std::cmp::Ordering;
 use std::marker::Model;
@@ -125,4 +128,24 @@ fn pick_cells<C: Cell>(alloc: Global, cells: &[C], columns: &[usize]) -> Result<
         chosen.push(cells[*column].copy_in(alloc)?)?;
     }
     Ok(chosen)
+}
+
+/// Whether the cells of the row have these types, one for each column.
+pub fn has_shape<C: Cell>(row: &Row<C>, shape: &Shape) -> bool
+    ensures { IsTrue result ↔ HasShape C.type_of row.now shape.now }
+{
+    row.len() == shape.len() && have_types(row.as_slice(), shape.as_slice())
+}
+
+/// Whether the cells have these types.
+fn have_types<C: Cell>(cells: &[C], types: &[ColType]) -> bool
+    requires { length cells.now ≡ length types.now }
+    ensures { IsTrue result ↔ HasShape C.type_of cells.now types.now }
+{
+    for (i, cell) in cells.iter().enumerate() {
+        if cell.col_type() != types[i] {
+            return false;
+        }
+    }
+    true
 }

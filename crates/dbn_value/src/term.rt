@@ -5,6 +5,7 @@ use super::copying::CopyIn;
 use super::name::Name;
 use super::value::{ColType, Value};
 use std::alloc::{AllocError, Global};
+use std::cmp::Ordering;
 
 /// A variable: its name, and a mark that tells renamed variables apart (0 in the text of a net).
 #[derive(Debug, PartialEq, Eq, Drop)]
@@ -40,6 +41,24 @@ impl Var {
         ensures equal { IsTrue result ↔ (self.now ≡ other.now) }
     {
         self == other
+    }
+}
+
+impl Cmp {
+    ghost use Rattle.dbn_value.specs.Order.{meets};
+
+    /// Whether the comparison holds of two things that stand in this order.
+    pub fn meets(self, order: Ordering) -> bool
+        ensures { result ≡ meets self order }
+    {
+        match self {
+            Cmp::Eq => order.is_eq(),
+            Cmp::Ne => order.is_ne(),
+            Cmp::Lt => order.is_lt(),
+            Cmp::Le => order.is_le(),
+            Cmp::Gt => order.is_gt(),
+            Cmp::Ge => order.is_ge(),
+        }
     }
 }
 
