@@ -1,4 +1,5 @@
 pub mod AscendingLaws
+pub mod CodingLaws
 pub mod CollectedLaws
 pub mod EntryLaws
 pub mod MemberLaws

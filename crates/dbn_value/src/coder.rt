@@ -1,8 +1,7 @@
 ghost use Rattle.std.specs.Prelude.{◌≡◌, ◌≢◌, Option, Some, IfOk, OnOk, OnErr};
-ghost use Rattle.std.specs.Option.{option_map};
 ghost use Rattle.dbn_value.specs.declared.value.Value.{Value as Val};
 ghost use Rattle.dbn_value.specs.Order.{value_type, value_int};
-ghost use Rattle.dbn_value.specs.Coding.{Extends};
+ghost use Rattle.dbn_value.specs.Coding.{Extends, Decodes, IsCoding};
 
 use super::cell::Cell;
 use super::value::Value;
@@ -14,6 +13,9 @@ pub trait Coder: Sized + Drop {
 
     /// The cell of each value that has one.
     ghost cell_of: { Self → Val → Option Self.Cell };
+
+    /// The value of each cell of the coder.
+    ghost value_of: { Self → Self.Cell → Val };
 
     /// The cells of the values that have one by themselves.
     ghost own: { Val → Option Self.Cell };
@@ -36,10 +38,10 @@ pub trait Coder: Sized + Drop {
     /// The value of a cell of this coder. An error is want of memory.
     fn get(&self, alloc: Global, cell: &Self::Cell) -> Result<Value, AllocError>
         requires { (v : Val) × (cell_of self.now v ≡ Some cell.now) }
-        ensures { IfOk result (λ v. cell_of self.now v ≡ Some cell.now) };
+        ensures { IfOk result (λ v. v ≡ value_of self.now cell.now) };
 
-    /// Different values have different cells.
-    ghost one_to_one: { (s : Self) (v w : Val) (c : Self.Cell) → cell_of s v ≡ Some c → cell_of s w ≡ Some c → v ≡ w };
+    /// A cell stands for its value, so different values have different cells.
+    ghost decodes: { (s : Self) → Decodes (cell_of s) (value_of s) };
 
     /// A cell has the type of its value.
     ghost keeps_type: { (s : Self) (v : Val) (c : Self.Cell) → cell_of s v ≡ Some c → Self.Cell.type_of c ≡ value_type v };
@@ -60,6 +62,8 @@ impl Coder for PlainCoder {
 
     ghost cell_of = { λ s v. Some v };
 
+    ghost value_of = { λ s c. c };
+
     ghost own = { λ v. Some v };
 
     fn empty(_alloc: Global) -> Result<PlainCoder, AllocError> {
@@ -78,7 +82,7 @@ impl Coder for PlainCoder {
         cell.copy_in(alloc)
     }
 
-    ghost one_to_one = { λ s v w c p q. Prim.cc };
+    ghost decodes = { λ s v c p. Prim.cc };
 
     ghost keeps_type = { λ s v c p. Prim.cc };
 
@@ -86,3 +90,10 @@ impl Coder for PlainCoder {
 
     ghost keeps_own = { λ s v c p. p };
 }
+
+/// Every coder gives cells that stand for their values, have their types and keep the order of ints.
+pub fn coding<P: Coder>(_coder: &P)
+    ensures coding { IsCoding P.Cell.cmp P.Cell.int_of (P.cell_of _coder.now) }
+    ensures decodes { Decodes (P.cell_of _coder.now) (P.value_of _coder.now) }
+    ensures types { (v : Val) (c : P.Cell) → P.cell_of _coder.now v ≡ Some c → P.Cell.type_of c ≡ value_type v }
+{}

@@ -2,6 +2,7 @@
 #![tactic(auto)]
 
 mod cell;
+mod coded;
 mod coder;
 mod copying;
 mod lists;
@@ -15,7 +16,8 @@ mod term;
 mod value;
 
 pub use cell::Cell;
-pub use coder::{Coder, PlainCoder};
+pub use coded::{find_row, get_row, put_row};
+pub use coder::{Coder, PlainCoder, coding};
 pub use copying::{CopyIn, copy_items};
 pub use lists::{Bytes, Nums, Rows, RowsOf, Shape, Shapes, Terms, TypedNames, TypedVars, Vars};
 pub use name::Name;
