@@ -1,4 +1,6 @@
+pub mod CommandLaws
 pub mod ContentLaws
+pub mod LastPartLaws
 mod LineExamples
 pub mod LineLaws
 pub mod NetTextLaws

@@ -13,7 +13,7 @@ use Rattle.std.proofs.lemmas.Bool.Decides.{nat_tests}
 use Rattle.dbn_model.specs.Lines.{Line, Text, Long, lines, line_of, without_empty_end, without_return}
 
 -- a part before others is kept
-kept : (part : List ℕ) (parts : List (List ℕ)) → 0 < length parts → without_empty_end (part ∷ parts) ≡ part ∷ without_empty_end parts
+pub kept : (part : List ℕ) (parts : List (List ℕ)) → 0 < length parts → without_empty_end (part ∷ parts) ≡ part ∷ without_empty_end parts
 kept part [] some = absurd (omega arith)
 kept [] (next ∷ parts) some = refl
 kept (byte ∷ part) (next ∷ parts) some = refl

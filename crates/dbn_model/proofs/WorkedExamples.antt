@@ -1,9 +1,11 @@
 -- The worked examples of nets and of their runs, computed.
-use Rattle.std.proofs.Common.{◌≡◌, List, [], ◌∷◌, None, refl}
+use Rattle.std.proofs.Common.{◌≡◌, ℕ, List, [], ◌∷◌, None, refl}
 use Rattle.std.specs.Prelude.{codes}
 use Rattle.std.specs.Fmt.{digits}
 use Rattle.dbn_model.specs.Nets.{Declaration, DeclaresPlace, DeclaresTokens, DeclaresTransition, Net, empty_net, declare_all, Reads}
-use Rattle.dbn_model.specs.Commands.{run_text}
+use Rattle.dbn_model.specs.Commands.{run_text, start, step}
+use Rattle.dbn_model.specs.Lines.{Line, Text}
+use Rattle.dbn_model.specs.Runs.{replies, answered}
 
 -- one place with one token, and one transition that takes it
 one_token : List Declaration
@@ -56,3 +58,30 @@ fires_once = refl
 answers_each_line : run_text one_token_net (codes " \t\r\n; note\nfire stop\nlaunch\nfire go now\n\tfire  go ") ≡ codes "error unknown stop\nerror line\nerror line\ncommitted 1\n"
 unfolding one_token_net digits
 answers_each_line = refl
+
+-- a blank line, a firing, a refusal, a blank line: so many are answered within so many bytes
+four_lines : List Line
+four_lines = Text [] ∷ Text (codes "fire go") ∷ Text (codes "fire go") ∷ Text [] ∷ []
+
+four_replies : List (List ℕ)
+four_replies = [] ∷ codes "committed 1\n" ∷ codes "refused disabled\n" ∷ [] ∷ []
+
+replies_one_by_one : replies step (start one_token_net) four_lines ≡ four_replies
+unfolding four_lines four_replies one_token_net digits
+replies_one_by_one = refl
+
+answered_before_the_first : answered four_replies 0 ≡ 1
+unfolding four_replies
+answered_before_the_first = refl
+
+answered_one_byte_early : answered four_replies 11 ≡ 1
+unfolding four_replies
+answered_one_byte_early = refl
+
+answered_after_the_firing : answered four_replies 12 ≡ 2
+unfolding four_replies
+answered_after_the_firing = refl
+
+answered_all : answered four_replies 29 ≡ 4
+unfolding four_replies
+answered_all = refl
