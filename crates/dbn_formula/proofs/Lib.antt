@@ -46,3 +46,4 @@ pub mod TypingLaws
 pub mod VariableLaws
 pub mod Weights
 pub mod WrittenLaws
+pub mod WrittenTests

@@ -1,6 +1,6 @@
 -- What is written in a formula: its variables, its relations, and how deep its text nests parentheses.
-use Rattle.std.specs.Prelude.{ℕ, ◌+◌, ◌<◌, max, List, [], ◌∷◌, ◌++◌, map}
-use Rattle.std.specs.List.{flat_map}
+use Rattle.std.specs.Prelude.{ℕ, ◌+◌, ◌<◌, nat_lt, max, Bool, List, [], ◌∷◌, ◌++◌, map}
+use Rattle.std.specs.List.{list_all, flat_map}
 use Rattle.dbn_value.specs.Members.{In}
 use Rattle.dbn_value.specs.declared.term.Var.{Var}
 use Rattle.dbn_formula.specs.Free.{variable_of}
@@ -44,6 +44,10 @@ relations f = fold-Formula (List ℕ) relations_step f
 -- its atoms are of the first n relations
 abbrev pub OfFirst : ℕ → Formula → Type 0
 OfFirst n f = (rel : ℕ) → In rel (relations f) → rel < n
+
+-- the same as a test
+unfoldable pub of_first : ℕ → Formula → Bool
+of_first n f = list_all (λ rel. nat_lt rel n) (relations f)
 
 -- ---- depth
 

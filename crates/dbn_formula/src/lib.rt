@@ -1,6 +1,7 @@
 //! Formulas over the relations of a net: what they mean, their normal form, their free variables and types, and which are safe.
 #![tactic(auto)]
 
+mod accepting;
 mod apart;
 mod arranging;
 mod copying;
@@ -14,14 +15,16 @@ mod tests;
 mod typing;
 mod typing_laws;
 mod variables;
+mod written;
 
+pub use accepting::{accepts_query, accepts_sentence, solvable};
 pub use apart::rename_apart;
 pub use arranging::arrange;
 pub use formula::{Formula, Formulas};
 pub use laws::{
     answers_are_a_set, free_variables_decide, normal_again, normal_is_small, normal_keeps,
 };
-pub use normal_form::normal;
+pub use normal_form::{normal, normal_denied};
 pub use safety::safe;
 pub use safety_laws::{
     answers_are_what_holds, any_safe_conjunct_first, arranging_keeps, renaming_keeps, safe_formulas_are_bounded,
@@ -33,3 +36,4 @@ pub use typing_laws::{
     typed_formulas_are_closed,
 };
 pub use variables::free;
+pub use written::{constants, is_unmarked, nests_within, relations_below};

@@ -11,10 +11,11 @@ ghost use Rattle.dbn_formula.specs.Safe.{arranged};
 ghost use Rattle.dbn_formula.specs.Size.{size};
 ghost use Rattle.dbn_formula.specs.Solutions.{solvable};
 ghost use Rattle.dbn_formula.specs.Typing.{Shapes, arity_fits, types_fit, type_fault};
-ghost use Rattle.dbn_formula.specs.Written.{OfFirst};
+ghost use Rattle.dbn_formula.specs.Written.{OfFirst, of_first};
 
 /// A formula over the first relations is as well typed over more of them.
 pub fn more_relations_change_no_types()
+    ensures test { (f : Formula) (n : ℕ) → of_first n f ≡ true → OfFirst n f }
     ensures arity { (rels more : Shapes) (f : Formula) → OfFirst (length rels) f → arity_fits (rels ++ more) f ≡ arity_fits rels f }
     ensures types { (rels more : Shapes) (f : Formula) (scope : TypedVars) → OfFirst (length rels) f → types_fit (rels ++ more) f scope ≡ types_fit rels f scope }
     ensures fault { (rels more : Shapes) (f : Formula) (scope : TypedVars) → OfFirst (length rels) f → type_fault (rels ++ more) f scope ≡ type_fault rels f scope }
