@@ -1,0 +1,16 @@
+pub mod Maybe
+pub mod PendingSexp
+pub mod PendingFormula
+pub mod Forms
+pub mod Printing
+pub mod Tables
+pub mod Naming
+pub mod Sentences
+pub mod Judging
+pub mod WellFormed
+pub mod Values
+pub mod Texts
+pub mod Codes
+pub mod Wants
+pub mod Enabled
+pub mod Good

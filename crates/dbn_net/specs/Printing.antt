@@ -1,0 +1,163 @@
+-- Declarations as S-expressions: the way back from what is read. All stand on line 0.
+use Rattle.std.specs.Prelude.{ℕ, List, [], ◌∷◌, ◌++◌, map, Option, Some, None, codes}
+use Rattle.dbn_value.specs.declared.value.Value.{Value}
+use Rattle.dbn_value.specs.declared.value.Value.TheVariants as value
+use Rattle.dbn_value.specs.declared.value.ColType.{ColType}
+use Rattle.dbn_value.specs.declared.value.ColType.TheVariants as col
+use Rattle.dbn_value.specs.declared.term.Var.{Var}
+use Rattle.dbn_value.specs.declared.term.Term.{Term}
+use Rattle.dbn_value.specs.declared.term.Term.TheVariants as term
+use Rattle.dbn_value.specs.declared.term.Cmp.{Cmp}
+use Rattle.dbn_value.specs.declared.term.Cmp.TheVariants as cmp
+use Rattle.dbn_sexp.specs.declared.sexp.Sexp.{Sexp}
+use Rattle.dbn_sexp.specs.declared.sexp.Item.{Item}
+use Rattle.dbn_sexp.specs.declared.sexp.Item.TheVariants as item
+use Rattle.dbn_sexp.specs.Printing.{on_line}
+use Rattle.dbn_net.specs.declared.written.Phrase.{Phrase}
+use Rattle.dbn_net.specs.declared.written.Phrase.TheOpen.{Phrase-F}
+use Rattle.dbn_net.specs.declared.written.Phrase.TheOpen as layer
+use Rattle.dbn_net.specs.declared.written.Phrase.TheFolds.{fold-Phrase}
+use Rattle.dbn_net.specs.declared.written.Group.{Group}
+use Rattle.dbn_net.specs.declared.written.Heap.{Heap}
+use Rattle.dbn_net.specs.declared.written.Parts.{Parts}
+use Rattle.dbn_net.specs.declared.written.Move.{Move}
+use Rattle.dbn_net.specs.declared.written.Move.TheVariants.{In, Read}
+use Rattle.dbn_net.specs.declared.written.Rule.{Rule}
+use Rattle.dbn_net.specs.declared.written.Written.{Written}
+use Rattle.dbn_net.specs.declared.written.Written.TheVariants.{Relation, Key, Foreign, Always, Query, Action, Control, View, Transition, Fact, Token}
+use Rattle.dbn_net.specs.Forms.{Name}
+
+-- ---- parts
+
+abbrev pub on_no_line : Item → Sexp
+on_no_line one = record { line = 0; item = one }
+
+-- the same with all lines 0
+abbrev pub no_lines : Sexp → Sexp
+no_lines one = on_no_line (on_line 0 one.item)
+
+abbrev pub word : Name → Sexp
+word name = on_no_line (item.Name name)
+
+abbrev pub constant : Value → Sexp
+constant v = on_no_line (item.Const v)
+
+abbrev pub list : List Sexp → Sexp
+list parts = on_no_line (item.List parts)
+
+-- a list with a first word
+abbrev pub form : Name → List Sexp → Sexp
+form first parts = list (word first ∷ parts)
+
+abbrev pub variable_sexp : Var → Sexp
+variable_sexp x = word x.name
+
+abbrev pub term_sexp : Term → Sexp
+term_sexp (term.Var x) = variable_sexp x
+term_sexp (term.Const v) = constant v
+
+abbrev pub type_word : ColType → Name
+type_word col.Int = codes "int"
+type_word col.Text = codes "text"
+type_word col.Id = codes "id"
+
+abbrev pub type_sexp : ColType → Sexp
+type_sexp type = word (type_word type)
+
+abbrev pub typed_sexp : Name × ColType → Sexp
+typed_sexp x = list (word x.0 ∷ type_sexp x.1 ∷ [])
+
+abbrev pub typed_variable_sexp : Var × ColType → Sexp
+typed_variable_sexp x = typed_sexp (x.0.name, x.1)
+
+abbrev pub scope_sexp : List (Var × ColType) → Sexp
+scope_sexp vars = list (map typed_variable_sexp vars)
+
+abbrev pub names_sexp : List Name → Sexp
+names_sexp names = list (map word names)
+
+-- ---- formulas
+
+abbrev pub comparison_word : Cmp → Name
+comparison_word cmp.Eq = codes "="
+comparison_word cmp.Ne = codes "!="
+comparison_word cmp.Lt = codes "<"
+comparison_word cmp.Le = codes "<="
+comparison_word cmp.Gt = codes ">"
+comparison_word cmp.Ge = codes ">="
+
+abbrev pub phrase_step : Phrase-F Sexp → Sexp
+phrase_step (layer.Atom rel terms) = form rel (map term_sexp terms)
+phrase_step (layer.Test cmp left right) = form (comparison_word cmp) (term_sexp left ∷ term_sexp right ∷ [])
+phrase_step (layer.And parts) = form (codes "and") parts
+phrase_step (layer.Or parts) = form (codes "or") parts
+phrase_step (layer.Not part) = form (codes "not") (part ∷ [])
+phrase_step (layer.Implies left right) = form (codes "implies") (left ∷ right ∷ [])
+phrase_step (layer.Exists vars body) = form (codes "exists") (scope_sexp vars ∷ body ∷ [])
+phrase_step (layer.Forall vars body) = form (codes "forall") (scope_sexp vars ∷ body ∷ [])
+
+unfoldable pub phrase_sexp : Phrase → Sexp
+phrase_sexp p = fold-Phrase Sexp phrase_step p
+
+-- ---- clauses
+
+abbrev pub group_parts : Group → List Sexp
+group_parts g = word g.name ∷ map term_sexp g.terms
+
+abbrev pub group_sexp : Group → Sexp
+group_sexp g = list (group_parts g)
+
+abbrev pub heap_sexp : Heap → Sexp
+heap_sexp h = list (constant (value.Int h.many) ∷ map term_sexp h.terms)
+
+abbrev pub heap_parts : Parts → List Sexp
+heap_parts p = word p.place ∷ map heap_sexp p.heaps
+
+abbrev pub move_sexp : Move → Sexp
+move_sexp (In p) = form (codes "in") (heap_parts p)
+move_sexp (Read g) = form (codes "read") (group_parts g)
+
+abbrev pub guard_sexps : Option Phrase → List Sexp
+guard_sexps None = []
+guard_sexps (Some p) = form (codes "guard") (phrase_sexp p ∷ []) ∷ []
+
+abbrev pub ask_sexps : List (Var × ColType) → List Sexp
+ask_sexps [] = []
+ask_sexps (x ∷ vars) = form (codes "ask") (map typed_variable_sexp (x ∷ vars)) ∷ []
+
+abbrev pub fresh_sexps : List Var → List Sexp
+fresh_sexps [] = []
+fresh_sexps (x ∷ vars) = form (codes "fresh") (map variable_sexp (x ∷ vars)) ∷ []
+
+abbrev pub call_sexps : Option Group → List Sexp
+call_sexps None = []
+call_sexps (Some g) = form (codes "do") (group_parts g) ∷ []
+
+-- the name and the clauses
+abbrev pub rule_parts : Rule → List Sexp
+rule_parts r =
+    word r.name
+    ∷ map move_sexp r.moves
+    ++ guard_sexps r.guard
+    ++ ask_sexps r.asked
+    ++ fresh_sexps r.fresh
+    ++ call_sexps r.call
+    ++ map (λ p. form (codes "out") (heap_parts p)) r.outs
+    ++ map (λ p. form (codes "back") (heap_parts p)) r.backs
+
+-- ---- declarations
+
+abbrev pub sexp_of : Written → Sexp
+sexp_of (Relation name fields) = form (codes "relation") (word name ∷ map typed_sexp fields)
+sexp_of (Key rel fields) = form (codes "key") (word rel ∷ map word fields)
+sexp_of (Foreign rel fields to to_fields) = form (codes "foreign") (word rel ∷ names_sexp fields ∷ word to ∷ names_sexp to_fields ∷ [])
+sexp_of (Always name body) = form (codes "always") (word name ∷ phrase_sexp body ∷ [])
+sexp_of (Query name vars body) = form (codes "query") (word name ∷ scope_sexp vars ∷ phrase_sexp body ∷ [])
+sexp_of (Action name params deletes adds) =
+    form (codes "action")
+    (word name ∷ scope_sexp params ∷ form (codes "delete") (map group_sexp deletes) ∷ form (codes "add") (map group_sexp adds) ∷ [])
+sexp_of (Control name shape) = form (codes "place") (word name ∷ map type_sexp shape)
+sexp_of (View name query) = form (codes "view") (word name ∷ word query ∷ [])
+sexp_of (Transition r) = form (codes "transition") (rule_parts r)
+sexp_of (Fact rel row) = form (codes "fact") (word rel ∷ map constant row)
+sexp_of (Token place many row) = form (codes "token") (word place ∷ constant (value.Int many) ∷ map constant row)
