@@ -6,6 +6,7 @@ mod coded;
 mod coder;
 mod copying;
 mod lists;
+mod member;
 mod name;
 mod order;
 mod reading;
@@ -19,7 +20,10 @@ pub use cell::Cell;
 pub use coded::{find_row, get_row, put_row};
 pub use coder::{Coder, PlainCoder, coding};
 pub use copying::{CopyIn, copy_items};
-pub use lists::{Bytes, Nums, Rows, RowsOf, Shape, Shapes, Terms, TypedNames, TypedVars, Vars};
+pub use lists::{
+    Bytes, Members, Nums, Rows, RowsOf, Shape, Shapes, Terms, TypedNames, TypedVars, Vars,
+};
+pub use member::Member;
 pub use name::Name;
 pub use order::compare;
 pub use reading::read_value;
@@ -27,7 +31,7 @@ pub use row::{Row, has_shape, pick};
 pub use scope::{row_of, value_of};
 pub use spelling::{in_range, spell};
 pub use term::{Cmp, Term, Var};
-pub use value::{ColType, IdNo, MAX_TEXT_BYTES, Txt, Value, ValueFault};
+pub use value::{ColType, ID_END, IdNo, MAX_TEXT_BYTES, Txt, Value, ValueFault, same_type};
 
 #[cfg(test)]
 mod tests;

@@ -1,5 +1,6 @@
 ghost use Rattle.std.specs.Prelude.{◌≡◌, ◌≤◌, length, IfOk, IsOk};
 
+use super::member::Member;
 use super::name::Name;
 use super::row::Row;
 use super::term::{Term, Var};
@@ -32,6 +33,9 @@ pub type RowsOf<C> = Items<Row<C>>;
 
 /// A list of rows of values.
 pub type Rows = RowsOf<Value>;
+
+/// The members of a group of firings, in the order in which they fire.
+pub type Members = Items<Member>;
 
 /// A list of bytes.
 #[derive(Debug, Drop)]

@@ -101,6 +101,13 @@ impl Name {
         Ok(Name::from_vec(Vec::from_slice(alloc, bytes)?))
     }
 
+    /// Whether the name is no operator: a letter and then letters, digits, `_` and `-`.
+    pub fn is_plain(&self) -> bool
+        ensures { result ≡ is_identifier self.now }
+    {
+        is_identifier(self.bytes.as_slice())
+    }
+
     /// Whether the two names are equal.
     pub fn same(&self, other: &Name) -> bool
         ensures value { result ≡ name_eq self.now other.now }

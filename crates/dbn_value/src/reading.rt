@@ -5,7 +5,7 @@ ghost use Rattle.std.specs.Option.{option_map, option_and_then};
 ghost use Rattle.dbn_value.specs.Spelling.{is_number, number_below, unescaped, text_value, id_value, negative_value, natural_value, value_of_bytes, spelling};
 
 use super::spelling::is_special;
-use super::value::{IdNo, Txt, Value, ValueFault};
+use super::value::{ID_END, IdNo, Txt, Value, ValueFault};
 use std::alloc::{AllocError, Global};
 use std::str::from_utf8;
 
@@ -94,7 +94,7 @@ fn read_text(alloc: Global, bytes: &[u8]) -> Result<Option<Value>, AllocError>
 fn read_id(bytes: &[u8]) -> Option<Value>
     ensures { result ≡ option_map id_value (number_below (2 ^ 62) bytes.now) }
 {
-    let id = IdNo::new(number_below(1 << 62, bytes)?)?;
+    let id = IdNo::new(number_below(ID_END, bytes)?)?;
     Some(Value::Id(id))
 }
 

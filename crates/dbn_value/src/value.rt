@@ -1,8 +1,9 @@
-ghost use Rattle.std.specs.Prelude.{◌≡◌, ◌≤◌, ◌<◌, ◌^◌, MatchOption, IfOk, IsErrOf, Some, None, if◌then◌else◌, IsFalse, ◌↔◌};
+ghost use Rattle.std.specs.Prelude.{◌≡◌, ◌≤◌, ◌<◌, ◌^◌, MatchOption, IfOk, IsErrOf, Some, None, if◌then◌else◌, IsFalse, IsTrue, ◌↔◌};
 ghost use Rattle.std.specs.List.{list_any};
 ghost use Rattle.std.specs.Char.{is_control};
 ghost use Rattle.std.specs.Str.{chars};
 ghost use Rattle.dbn_value.specs.Text.{is_text, IsText};
+ghost use Rattle.dbn_value.specs.Order.{type_eq};
 
 use std::alloc::{AllocError, Global};
 use std::marker::Model;
@@ -18,6 +19,9 @@ pub enum ColType {
 
 /// The greatest number of bytes of a text.
 pub const MAX_TEXT_BYTES: usize = 4096;
+
+/// The numbers of ids are below this one, 2^62.
+pub const ID_END: u64 = 1 << 62;
 
 /// Whether a control character stands in the text.
 fn has_control(text: &str) -> bool
@@ -35,6 +39,14 @@ pub(crate) fn is_text(bytes: &[u8]) -> bool
         Ok(text) => bytes.len() <= MAX_TEXT_BYTES && !has_control(text),
         Err(_) => false,
     }
+}
+
+/// Whether the two are the same type.
+pub fn same_type(a: ColType, b: ColType) -> bool
+    ensures value { result ≡ type_eq a b }
+    ensures equal { IsTrue result ↔ (a ≡ b) }
+{
+    a == b
 }
 
 /// A text: at most 4,096 bytes of UTF-8 without control characters.
@@ -124,7 +136,7 @@ impl IdNo {
     pub fn new(n: u64) -> Option<IdNo>
         ensures { MatchOption result (2 ^ 62 ≤ n) (λ i. (i ≡ n) × (n < 2 ^ 62)) }
     {
-        if n < 1 << 62 {
+        if n < ID_END {
             Some(IdNo { number: n })
         } else {
             None
