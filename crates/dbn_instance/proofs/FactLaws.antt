@@ -1,8 +1,8 @@
 -- Instances after changes: they stay instances, which facts are there, and that net changes lead where the action leads and can be taken back.
-use Rattle.std.proofs.Common.{◌≡◌, ℕ, ◌<◌, ◌≢◌, zero, suc, Bool, true, false, cond, not, ◌&&◌, ◌||◌, List, [], ◌∷◌, ◌++◌, map, refl, sym, ap, ◌∙◌, subst, inl, inr, ⊎_elim, length, get_or, set, arith, get_or-set_same, get_or-set_other, length-set, replicate, take, ◌+◌, append-nil, drop, add-one, drop-cons, if◌then◌else◌, Result, Ok, Err, OnErr, OnOk}
+use Rattle.std.proofs.Common.{◌≡◌, ℕ, ◌<◌, ◌≢◌, zero, suc, Bool, true, false, cond, not, ◌&&◌, ◌||◌, List, [], ◌∷◌, ◌++◌, map, refl, sym, ap, ◌∙◌, subst, inl, inr, ⊎_elim, length, get_or, set, arith, get_or-set_same, get_or-set_other, length-set, replicate, take, append_assoc, ◌+◌, append-nil, drop, add-one, drop-cons, if◌then◌else◌, Result, Ok, Err, OnErr, OnOk}
 use Rattle.std.specs.declared.cmp.Ordering.{Ordering}
 use Rattle.std.specs.declared.cmp.Ordering.TheVariants.{Less, Equal, Greater}
-use Rattle.std.specs.Ordering.{eq_by_cmp, is_eq, nat_cmp, ordering_then}
+use Rattle.std.specs.Ordering.{eq_by_cmp, is_eq, nat_cmp, ordering_then, ordering_reverse, match_ordering}
 use Rattle.std.specs.Cmp.{IsTotalOrder, nat_cmp_total, tied_itself, eq_by_cmp_equiv}
 use Rattle.std.specs.Cmp.Lexicographic.{slice_cmp, lists_total}
 use Rattle.std.specs.FinMap.{IsAntisymmetric, nat_cmp-IsAntisymmetric, slice_cmp-IsAntisymmetric}
@@ -15,17 +15,18 @@ use Rattle.std.proofs.lemmas.Bool.{true≢false, cases_eq, and_parts, not-true}
 use Rattle.std.proofs.lemmas.Option.{slice_get_read}
 use Rattle.std.proofs.lemmas.Result.{on_ok_weaker}
 use Rattle.std.proofs.lemmas.List.Elements.{All-head, All-tail, filter_more}
+use Rattle.std.proofs.lemmas.List.{take_more}
 use Rattle.std.proofs.lemmas.Map.Keys.{sorted_tail}
 use Rattle.std.proofs.lemmas.Map.Views.{any-filter_same}
 use Rattle.dbn_value.specs.Members.{In}
 use Rattle.dbn_value.specs.Ascending.{ascending}
-use Rattle.dbn_value.proofs.MemberLaws.{in_any, in_filter, in_append, in_map, all_elements_at, all_elements_from}
-use Rattle.dbn_value.proofs.AscendingLaws.{sorted_nil, sorted_insert_key, sorted_remove_key, sorted_ascending, any_insert_key, any_remove_key, any_ascending, ascending_push, in_ascending, head_below, same_tests, is_one}
+use Rattle.dbn_value.proofs.MemberLaws.{in_any, in_filter, in_append, append_right, in_map, all_elements_at, all_elements_from}
+use Rattle.dbn_value.proofs.AscendingLaws.{sorted_nil, sorted_insert_key, sorted_remove_key, sorted_ascending, any_insert_key, any_remove_key, any_ascending, filter_ascending, ascending_push, in_ascending, head_below, same_tests, is_one}
 use Rattle.dbn_instance.specs.declared.fact.Fact.{Fact}
 use Rattle.dbn_instance.specs.declared.fact.Change.{Change}
 use Rattle.dbn_instance.specs.declared.fact.Change.TheVariants.{Plus, Minus}
 use Rattle.dbn_instance.specs.FactOrder.{fact_cmp, fact_total}
-use Rattle.dbn_instance.specs.Facts.{Relations, rows_of, fact_of, comes, turned, AreInRange, IsInstance, has_fact, with_fact, without_fact, with_facts, without_facts, after_action, changed, after_changes, taken_back, StoppedAt, Fits, AllFit, is_among, lost_facts, gained_facts, net_changes}
+use Rattle.dbn_instance.specs.Facts.{Relations, rows_of, fact_of, comes, turned, AreInRange, IsInstance, has_fact, with_fact, without_fact, with_facts, without_facts, after_action, changed, after_changes, taken_back, StoppedAt, Fits, AllFit, is_among, lost_facts, missing_facts, gained_facts, net_changes}
 
 pub on_err : {T E P : Type 0} (r : Result T E) → P → OnErr r P
 on_err (Ok a) p = tt
@@ -63,7 +64,7 @@ module _ {C : Type 0} (cmp : C → C → Ordering) where
 
 -- ---- the order of facts
 
-then_equal : (r s : Ordering) → ordering_then r s ≡ Equal → (r ≡ Equal) × (s ≡ Equal)
+pub then_equal : (r s : Ordering) → ordering_then r s ≡ Equal → (r ≡ Equal) × (s ≡ Equal)
 then_equal Less s e = absurd (true≢false (sym (ap is_eq e)))
 then_equal Equal s e = (refl, e)
 then_equal Greater s e = absurd (true≢false (sym (ap is_eq e)))
@@ -105,6 +106,14 @@ module _ {C : Type 0} (cmp : C → C → Ordering) where
   instance_empty zero = tt
   instance_empty (suc n) = (sorted_nil (slice_cmp cmp), instance_empty n)
 
+  instance_more : (db : Relations C) → IsInstance cmp db → IsInstance cmp (db ++ [] ∷ [])
+  instance_more [] is = (sorted_nil (slice_cmp cmp), tt)
+  instance_more (rows ∷ db) is = (is.0, instance_more db is.1)
+
+  pub instance_either : (b : Bool) (db : Relations C) → IsInstance cmp db → IsInstance cmp (cond b (db ++ [] ∷ []) db)
+  instance_either true db is = instance_more db is
+  instance_either false db is = is
+
   pub length_changed : (db : Relations C) (c : Change C) → length (changed cmp db c) ≡ length db
   length_changed db (Plus f) = length-set db f.rel _
   length_changed db (Minus f) = length-set db f.rel _
@@ -134,6 +143,43 @@ module _ {C : Type 0} {cmp : C → C → Ordering} (o : IsTotalOrder cmp) where
   pub instance_after_changes : (changes : List (Change C)) (db : Relations C) → IsInstance cmp db → IsInstance cmp (after_changes cmp changes db)
   instance_after_changes [] db is = is
   instance_after_changes (c ∷ changes) db is = instance_after_changes changes (changed cmp db c) (instance_changed db c is)
+
+-- ---- copies
+
+module _ {K : Type 0} {R : K → K → Ordering} (o : IsTotalOrder R) where
+  -- a key behind all others comes last
+  insert_key_last : (keys rest : List K) (k : K) → IsStrictlySortedBy R (keys ++ k ∷ rest) → insert_key R keys k ≡ keys ++ k ∷ []
+  insert_key_last [] rest k s = refl
+  insert_key_last (x ∷ keys) rest k s =
+      let below : R x k ≡ Less = head_below R x (keys ++ k ∷ rest) k s (append_right k keys (k ∷ rest) (inl refl)) in
+      let above : R k x ≡ Greater = o.antisymm k x ∙ ap ordering_reverse below in
+      ap (λ r. match_ordering r (k ∷ x ∷ keys) (x ∷ keys) (x ∷ insert_key R keys k)) above
+      ∙ ap (λ l. x ∷ l) (insert_key_last keys rest k (sorted_tail R x (keys ++ k ∷ rest) s))
+
+  -- one more key is copied
+  pub copied_more : (copied rest whole new : List K) (k : K) → IsStrictlySortedBy R whole → copied ++ k ∷ rest ≡ whole → new ≡ insert_key R copied k → new ++ rest ≡ whole
+  copied_more copied rest whole new k s so_far is =
+      let last = insert_key_last copied rest k (subst (IsStrictlySortedBy R) (sym so_far) s) in
+      ap (λ keys. keys ++ rest) (is ∙ last) ∙ append_assoc copied (k ∷ []) rest ∙ so_far
+
+-- ---- facts that are not there, one after the other
+
+module _ {C : Type 0} (cmp : C → C → Ordering) where
+  pub plus_more : (db : Relations C) (f : Fact C) (rest : List (Fact C)) (changes new target : List (Change C)) → not (has_fact cmp db f) ≡ true → new ≡ changes ++ Plus f ∷ []
+      → changes ++ map (λ g. Plus g) (missing_facts cmp (f ∷ rest) db) ≡ target → new ++ map (λ g. Plus g) (missing_facts cmp rest db) ≡ target
+  plus_more db f rest changes new target wanted is so_far =
+      ap (λ l. l ++ map (λ g. Plus g) (missing_facts cmp rest db)) is
+      ∙ append_assoc changes (Plus f ∷ []) (map (λ g. Plus g) (missing_facts cmp rest db))
+      ∙ ap (λ b. changes ++ map (λ g. Plus g) (cond b (f ∷ missing_facts cmp rest db) (missing_facts cmp rest db))) (sym wanted)
+      ∙ so_far
+
+  pub range_tail : (f : Fact C) (facts : List (Fact C)) (db : Relations C) → AreInRange db (f ∷ facts) → AreInRange db facts
+  range_tail f facts db all = All-tail (λ (g : Fact C). g.rel < length db) f facts all
+
+  pub plus_same : (db : Relations C) (f : Fact C) (rest : List (Fact C)) (changes target : List (Change C)) → not (has_fact cmp db f) ≡ false
+      → changes ++ map (λ g. Plus g) (missing_facts cmp (f ∷ rest) db) ≡ target → changes ++ map (λ g. Plus g) (missing_facts cmp rest db) ≡ target
+  plus_same db f rest changes target there so_far =
+      ap (λ b. changes ++ map (λ g. Plus g) (cond b (f ∷ missing_facts cmp rest db) (missing_facts cmp rest db))) (sym there) ∙ so_far
 
 -- ---- how many relations there are
 
@@ -230,6 +276,13 @@ module _ {C : Type 0} {cmp : C → C → Ordering} (o : IsTotalOrder cmp) (exact
       ∙ ap (λ b. not (is_among cmp facts g) && b) (has_without db f g (All-head (λ (f : Fact C). f.rel < length db) f facts all) is)
       ∙ not_turn (is_among cmp facts g) (same g f) (has_fact cmp db g)
 
+  -- what an action makes of an instance, fact by fact
+  pub has_after_action : (deletes adds : List (Fact C)) (db : Relations C) (g : Fact C) → IsInstance cmp db → AreInRange db deletes → AreInRange db adds
+      → has_fact cmp (after_action cmp deletes adds db) g ≡ (is_among cmp adds g || (not (is_among cmp deletes g) && has_fact cmp db g))
+  has_after_action deletes adds db g is deletes_in adds_in =
+      has_with_facts (without_facts cmp db deletes) adds g (in_range (length db) (length (without_facts cmp db deletes)) adds (length_without_facts cmp db deletes) adds_in)
+      ∙ ap (λ b. is_among cmp adds g || b) (has_without_facts db deletes g deletes_in is)
+
   -- ---- net changes
 
   pub among_from_in : (facts : List (Fact C)) (f : Fact C) → In f facts → is_among cmp facts f ≡ true
@@ -318,6 +371,31 @@ module _ {C : Type 0} {cmp : C → C → Ordering} (o : IsTotalOrder cmp) (exact
       by : (b : Bool) → cond b (insert_key (fact_cmp cmp) (ascending (fact_cmp cmp) (filter t (take i facts))) f) (ascending (fact_cmp cmp) (filter t (take i facts))) ≡ ascending (fact_cmp cmp) (filter t (take i facts) ++ cond b (f ∷ []) [])
       by true = sym (ascending_push (fact_total o) (fact_exact exact) f (filter t (take i facts)))
       by false = ap (λ l. ascending (fact_cmp cmp) l) (sym (append-nil (filter t (take i facts))))
+
+  -- facts that are kept in a set, in place of the list of added facts
+  pub range_ascending : (facts : List (Fact C)) (db : Relations C) → AreInRange db facts → AreInRange db (ascending (fact_cmp cmp) facts)
+  range_ascending facts db all =
+      all_elements_from (λ (f : Fact C). f.rel < length db) _ (λ f at. all_elements_at (λ (f : Fact C). f.rel < length db) f facts all (in_ascending (fact_cmp cmp) f facts at))
+
+  net_changes_by_set : (deletes adds : List (Fact C)) (db : Relations C) → net_changes cmp deletes adds db
+      ≡ map (λ f. Minus f) (lost_facts cmp deletes (ascending (fact_cmp cmp) adds) db) ++ map (λ f. Plus f) (missing_facts cmp (ascending (fact_cmp cmp) adds) db)
+  net_changes_by_set deletes adds db = (λ i. map (λ f. Minus f) (ascending (fact_cmp cmp) (filter (λ f. has_fact cmp db f && not (sym (any_ascending (fact_total o) (fact_exact exact) f adds) i)) deletes))
+      ++ map (λ f. Plus f) (sym (filter_ascending (fact_total o) (fact_exact exact) (λ f. not (has_fact cmp db f)) adds) i))
+
+  -- the changes that are made from the set of added facts
+  pub net_changes_made : (deletes adds keys lost : List (Fact C)) (db : Relations C) (first changes : List (Change C)) → keys ≡ ascending (fact_cmp cmp) adds → lost ≡ lost_facts cmp deletes keys db
+      → first ≡ map (λ f. Minus f) lost → changes ≡ first ++ map (λ f. Plus f) (missing_facts cmp keys db) → changes ≡ net_changes cmp deletes adds db
+  net_changes_made deletes adds keys lost db first changes set goes minuses is =
+      is
+      ∙ ap (λ l. l ++ map (λ f. Plus f) (missing_facts cmp keys db)) (minuses ∙ ap (λ l. map (λ f. Minus f) l) goes)
+      ∙ ap (λ l. map (λ f. Minus f) (lost_facts cmp deletes l db) ++ map (λ f. Plus f) (missing_facts cmp l db)) set
+      ∙ sym (net_changes_by_set deletes adds db)
+
+  pub fact_more : (facts : List (Fact C)) (i : ℕ) (f : Fact C) (keys new : List (Fact C)) → keys ≡ ascending (fact_cmp cmp) (take i facts) → i < length facts → f ≡ get_or facts i f
+      → new ≡ insert_key (fact_cmp cmp) keys f → new ≡ ascending (fact_cmp cmp) (take (i + 1) facts)
+  fact_more facts i f keys new so_far within at is =
+      is ∙ ap (λ l. insert_key (fact_cmp cmp) l f) so_far ∙ sym (ascending_push (fact_total o) (fact_exact exact) f (take i facts))
+      ∙ ap (λ l. ascending (fact_cmp cmp) l) (sym (take_more facts i f within ∙ ap (λ g. take i facts ++ g ∷ []) (sym at)))
 
   -- ---- each change fits
 

@@ -19,7 +19,7 @@ use Rattle.dbn_instance.specs.declared.fact.Change.TheVariants.{Plus, Minus}
 use Rattle.dbn_instance.specs.FactOrder.{fact_cmp, fact_total}
 use Rattle.dbn_instance.specs.Facts.{Relations, fact_of, AreInRange, IsInstance, has_fact, without_facts, after_action, changed, after_changes, is_among, lost_facts, gained_facts, net_changes}
 use Rattle.dbn_instance.specs.Shortest.{IsShortest}
-use Rattle.dbn_instance.proofs.FactLaws.{net_changes_lead, same_is, apart_false, among_from_in, in_range, length_changed, length_without_facts, instance_changed, has_with, has_without, has_with_facts, has_without_facts, in_lost, in_gained}
+use Rattle.dbn_instance.proofs.FactLaws.{net_changes_lead, same_is, apart_false, among_from_in, in_range, length_changed, length_without_facts, instance_changed, has_with, has_without, has_after_action, in_lost, in_gained}
 
 -- ---- how many elements pass a test
 
@@ -121,24 +121,17 @@ module _ {C : Type 0} {cmp : C → C → Ordering} (o : IsTotalOrder cmp) (exact
   apart_sorted [] s = tt
   apart_sorted (f ∷ facts) s = (λ g at. apart_false o exact f g (head_below (fact_cmp cmp) f facts g s at), apart_sorted facts (sorted_tail (fact_cmp cmp) f facts s))
 
-  -- where the action leads, by fact
-  after : (deletes adds : List (Fact C)) (db : Relations C) (f : Fact C) → IsInstance cmp db → AreInRange db deletes → AreInRange db adds
-      → has_fact cmp (after_action cmp deletes adds db) f ≡ (is_among cmp adds f || (not (is_among cmp deletes f) && has_fact cmp db f))
-  after deletes adds db f is deletes_in adds_in =
-      has_with_facts o exact (without_facts cmp db deletes) adds f (in_range o exact (length db) (length (without_facts cmp db deletes)) adds (length_without_facts cmp db deletes) adds_in)
-      ∙ ap (λ b. is_among cmp adds f || b) (has_without_facts o exact db deletes f deletes_in is)
-
   lost_differs : (deletes adds : List (Fact C)) (db : Relations C) (f : Fact C) → IsInstance cmp db → AreInRange db deletes → AreInRange db adds → In f (lost_facts cmp deletes adds db) → differs db (after_action cmp deletes adds db) f ≡ true
   lost_differs deletes adds db f is deletes_in adds_in at =
       let found = in_filter (λ f. has_fact cmp db f && not (is_among cmp adds f)) f deletes (in_ascending (fact_cmp cmp) f _ at) in
       let parts = and_parts (has_fact cmp db f) (not (is_among cmp adds f)) found.1 in
-      (λ i. unlike (parts.0 i) (after deletes adds db f is deletes_in adds_in i))
+      (λ i. unlike (parts.0 i) (has_after_action o exact deletes adds db f is deletes_in adds_in i))
       ∙ (λ i. not (not-true (is_among cmp adds f) parts.1 i || (not (among_from_in o exact deletes f found.0 i) && has_fact cmp db f)))
 
   gained_differs : (deletes adds : List (Fact C)) (db : Relations C) (f : Fact C) → IsInstance cmp db → AreInRange db deletes → AreInRange db adds → In f (gained_facts cmp adds db) → differs db (after_action cmp deletes adds db) f ≡ true
   gained_differs deletes adds db f is deletes_in adds_in at =
       let found = in_gained o exact adds db f at in
-      (λ i. unlike (found.1 i) (after deletes adds db f is deletes_in adds_in i))
+      (λ i. unlike (found.1 i) (has_after_action o exact deletes adds db f is deletes_in adds_in i))
       ∙ ap (λ b. b || (not (is_among cmp deletes f) && has_fact cmp db f)) (among_from_in o exact adds f found.0)
 
   -- a fact that goes is none that comes

@@ -107,8 +107,11 @@ module _ {C : Type 0} where
     abbrev pub lost_facts : List (Fact C) → List (Fact C) → Relations C → List (Fact C)
     lost_facts deletes adds db = ascending (fact_cmp cmp) (filter (λ f. has_fact db f && not (is_among adds f)) deletes)
 
+    abbrev pub missing_facts : List (Fact C) → Relations C → List (Fact C)
+    missing_facts facts db = filter (λ f. not (has_fact db f)) facts
+
     abbrev pub gained_facts : List (Fact C) → Relations C → List (Fact C)
-    gained_facts adds db = ascending (fact_cmp cmp) (filter (λ f. not (has_fact db f)) adds)
+    gained_facts adds db = ascending (fact_cmp cmp) (missing_facts adds db)
 
     -- the shortest list of changes that leads to what the action makes of the instance
     abbrev pub net_changes : List (Fact C) → List (Fact C) → Relations C → List (Change C)

@@ -1,8 +1,9 @@
 ghost use Rattle.std.specs.Prelude.{◌≡◌, ◌<◌, ◌++◌, map, if◌then◌else◌, length, IfOk, OnOk};
 ghost use Rattle.std.specs.List.{All};
 ghost use Rattle.std.specs.BTreeSet.{insert_key};
+ghost use Rattle.dbn_value.specs.Ascending.{ascending};
 ghost use Rattle.dbn_instance.specs.FactOrder.{fact_cmp};
-ghost use Rattle.dbn_instance.specs.Facts.{fact_of, AreInRange, is_among, lost_facts, gained_facts, net_changes, after_action, after_changes, AllFit};
+ghost use Rattle.dbn_instance.specs.Facts.{fact_of, AreInRange, lost_facts, missing_facts, net_changes, after_action, after_changes, AllFit};
 ghost use Rattle.dbn_instance.specs.Shortest.{IsShortest};
 ghost use Rattle.dbn_instance.specs.declared.fact.Change.TheVariants.{Plus, Minus};
 
@@ -30,55 +31,49 @@ pub fn net_changes<C: Cell>(
     ensures in_range { IfOk result (λ changes. All (λ c. (fact_of c).rel < length instance.now) changes) }
     ensures fits { IfOk result (λ changes. AllFit C.cmp changes instance.now) }
 {
-    let lost = lost(alloc, deletes.as_slice(), adds.as_slice(), instance)?;
-    let gained = gained(alloc, adds.as_slice(), instance)?;
+    let added = fact_set(alloc, adds.as_slice())?;
+    let lost = lost(alloc, deletes.as_slice(), &added, instance)?;
     let mut changes = Items::new(alloc);
     push_minuses(&mut changes, lost)?;
-    push_pluses(&mut changes, gained)?;
+    push_pluses(&mut changes, added, instance)?;
     // The call tells the proof that the rows of each relation ascend.
     let _count = instance.relations();
     Ok(changes)
+}
+
+/// The facts, each once.
+fn fact_set<C: Cell>(alloc: Global, facts: &[Fact<C>]) -> Result<BTreeSet<Fact<C>>, AllocError>
+    ensures { IfOk result (λ set. set.keys ≡ ascending (fact_cmp C.cmp) facts.now) }
+{
+    let mut set = BTreeSet::new(alloc);
+    for fact in facts {
+        set.insert(fact.copy_in(alloc)?)?;
+    }
+    Ok(set)
 }
 
 /// The deleted facts that are there and not added.
 fn lost<C: Cell>(
     alloc: Global,
     deletes: &[Fact<C>],
-    adds: &[Fact<C>],
+    added: &BTreeSet<Fact<C>>,
     instance: &Instance<C>,
 ) -> Result<BTreeSet<Fact<C>>, AllocError>
     requires { AreInRange instance.now deletes.now }
-    ensures { IfOk result (λ lost. lost.keys ≡ lost_facts C.cmp deletes.now adds.now instance.now) }
+    ensures { IfOk result (λ lost. lost.keys ≡ lost_facts C.cmp deletes.now added.now.keys instance.now) }
 {
     let mut lost = BTreeSet::new(alloc);
     for fact in deletes {
-        let wanted = instance.has(fact) && !is_among(adds, fact);
-        keep(&mut lost, alloc, fact, wanted)?;
+        let wanted = instance.has(fact) && !added.contains(fact);
+        keep(alloc, &mut lost, fact, wanted)?;
     }
     Ok(lost)
 }
 
-/// The added facts that are not there.
-fn gained<C: Cell>(
-    alloc: Global,
-    adds: &[Fact<C>],
-    instance: &Instance<C>,
-) -> Result<BTreeSet<Fact<C>>, AllocError>
-    requires { AreInRange instance.now adds.now }
-    ensures { IfOk result (λ gained. gained.keys ≡ gained_facts C.cmp adds.now instance.now) }
-{
-    let mut gained = BTreeSet::new(alloc);
-    for fact in adds {
-        let wanted = !instance.has(fact);
-        keep(&mut gained, alloc, fact, wanted)?;
-    }
-    Ok(gained)
-}
-
 /// Adds a copy of the fact to the set, where it is wanted.
 fn keep<C: Cell>(
-    set: &mut BTreeSet<Fact<C>>,
     alloc: Global,
+    set: &mut BTreeSet<Fact<C>>,
     fact: &Fact<C>,
     wanted: bool,
 ) -> Result<(), AllocError>
@@ -90,13 +85,7 @@ fn keep<C: Cell>(
     Ok(())
 }
 
-/// Whether one of the facts is this one.
-fn is_among<C: Cell>(facts: &[Fact<C>], fact: &Fact<C>) -> bool
-    ensures { result ≡ is_among C.cmp facts.now fact.now }
-{
-    facts.iter().any(|other| fact.cmp(other).is_eq())
-}
-
+/// Appends a Minus for each of the facts.
 fn push_minuses<C: Cell>(
     changes: &mut Changes<C>,
     facts: BTreeSet<Fact<C>>,
@@ -109,14 +98,19 @@ fn push_minuses<C: Cell>(
     Ok(())
 }
 
+/// Appends a Plus for each of the added facts that is not there.
 fn push_pluses<C: Cell>(
     changes: &mut Changes<C>,
-    facts: BTreeSet<Fact<C>>,
+    added: BTreeSet<Fact<C>>,
+    instance: &Instance<C>,
 ) -> Result<(), AllocError>
-    ensures { OnOk result (changes.new ≡ changes.old ++ map (λ f. Plus f) facts.keys) }
+    requires { AreInRange instance.now added.keys }
+    ensures { OnOk result (changes.new ≡ changes.old ++ map (λ f. Plus f) (missing_facts C.cmp added.keys instance.now)) }
 {
-    for fact in facts {
-        changes.push(Change::Plus(fact))?;
+    for fact in added {
+        if !instance.has(&fact) {
+            changes.push(Change::Plus(fact))?;
+        }
     }
     Ok(())
 }

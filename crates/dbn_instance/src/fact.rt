@@ -13,7 +13,9 @@ use std::cmp::Ordering;
 /// A row of a relation, which goes by its number. Facts are ordered by relation and then by row.
 #[derive(Debug, Drop)]
 pub struct Fact<C> {
+    /// The number of the relation, from 0 on.
     pub rel: usize,
+    /// The row, with one cell for each column.
     pub row: Row<C>,
 }
 
@@ -23,7 +25,9 @@ pub type Facts<C> = Items<Fact<C>>;
 /// A fact that comes or goes.
 #[derive(Debug, Drop)]
 pub enum Change<C> {
+    /// The fact comes.
     Plus(Fact<C>),
+    /// The fact goes.
     Minus(Fact<C>),
 }
 
@@ -32,7 +36,7 @@ pub type Changes<C> = Items<Change<C>>;
 
 impl<C> Change<C> {
     /// The fact that comes or goes.
-    pub(crate) fn fact(&self) -> &Fact<C>
+    pub fn fact(&self) -> &Fact<C>
         ensures { result.now ≡ fact_of self.now }
     {
         match self {
@@ -42,7 +46,7 @@ impl<C> Change<C> {
     }
 
     /// Whether the fact comes; else it goes.
-    pub(crate) fn comes(&self) -> bool
+    pub fn comes(&self) -> bool
         ensures { result ≡ comes self.now }
     {
         matches!(self, Change::Plus(_))
@@ -52,7 +56,9 @@ impl<C> Change<C> {
 /// A fact with terms in place of cells.
 #[derive(Debug, Drop)]
 pub struct FactPattern {
+    /// The number of the relation, from 0 on.
     pub rel: usize,
+    /// The term at each column.
     pub terms: Terms,
 }
 
@@ -62,9 +68,13 @@ pub type FactPatterns = Items<FactPattern>;
 /// An action: the facts that it deletes and then those that it adds, for arguments in the place of its parameters.
 #[derive(Debug, Drop)]
 pub struct Action {
+    /// The name by which it is called.
     pub name: Name,
+    /// The parameters with their types, in the order of the arguments.
     pub params: TypedVars,
+    /// The facts that go.
     pub deletes: FactPatterns,
+    /// The facts that come, also those that are deleted.
     pub adds: FactPatterns,
 }
 
@@ -102,7 +112,9 @@ impl<C: Ord> Ord for Fact<C> {
     ghost matches_eq = { λ x y. refl };
 
     fn cmp(&self, other: &Fact<C>) -> Ordering {
-        self.rel.cmp(&other.rel).then(self.row.cmp(&other.row))
+        self.rel
+            .cmp(&other.rel)
+            .then_with(|| self.row.cmp(&other.row))
     }
 }
 

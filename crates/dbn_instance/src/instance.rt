@@ -1,4 +1,4 @@
-ghost use Rattle.std.specs.Prelude.{◌≡◌, ◌<◌, ℕ, List, [], length, replicate, if◌then◌else◌, not, IfOk, OnOk, OnErr, IsTrue};
+ghost use Rattle.std.specs.Prelude.{◌≡◌, ◌<◌, ◌++◌, ◌∷◌, ℕ, List, [], length, replicate, if◌then◌else◌, not, IfOk, OnOk, OnErr, IsTrue};
 ghost use Rattle.std.specs.BTreeMap.{is_at};
 ghost use Rattle.std.specs.List.{All, list_any};
 ghost use Rattle.std.specs.List.Sorted.{IsStrictlySortedBy};
@@ -13,7 +13,7 @@ use std::collections::BTreeSet;
 use std::marker::Model;
 
 /// An instance: for each relation, numbered from 0, its rows, each once, in the order of the cells.
-#[derive(Drop)]
+#[derive(Debug, Drop)]
 pub struct Instance<C: Cell> {
     relations: Vec<Relation<C>>,
 }
@@ -37,7 +37,7 @@ impl<C: Cell> Instance<C> {
     pub fn new(alloc: Global, relations: usize) -> Result<Instance<C>, AllocError>
         ensures { IfOk result (λ i. i ≡ replicate relations []) }
     {
-        let mut empty = Vec::new(alloc);
+        let mut empty = Vec::with_capacity(alloc, relations)?;
         for _ in 0..relations {
             empty.push(Relation::new(alloc))?;
         }
@@ -50,6 +50,15 @@ impl<C: Cell> Instance<C> {
         ensures ascending { IsInstance C.cmp self.now }
     {
         self.relations.len()
+    }
+
+    /// Adds a relation without rows behind the others. An error is want of memory, and then nothing changed.
+    pub fn add_relation(&mut self, alloc: Global) -> Result<(), AllocError>
+        ensures ok { OnOk result (self.new ≡ self.old ++ [] ∷ []) }
+        ensures err { OnErr result (self.new ≡ self.old) }
+    {
+        self.relations.push(Relation::new(alloc))?;
+        Ok(())
     }
 
     /// Whether the fact is there.
@@ -169,5 +178,15 @@ impl<C: Cell> Instance<C> {
     {
         let relation = &mut self.relations[fact.rel];
         relation.remove(&fact.row);
+    }
+}
+
+impl<C: Cell> CopyIn for Instance<C> {
+    fn copy_in(&self, alloc: Global) -> Result<Instance<C>, AllocError> {
+        let mut relations = Vec::with_capacity(alloc, self.relations.len())?;
+        for relation in &self.relations {
+            relations.push(relation.copy_in(alloc)?)?;
+        }
+        Ok(Instance { relations })
     }
 }

@@ -13,8 +13,8 @@ use std::collections::BTreeSet;
 use std::marker::Model;
 
 /// The rows of one relation.
-#[derive(Drop)]
-pub struct Relation<C: Cell> {
+#[derive(Debug, Drop)]
+pub(crate) struct Relation<C: Cell> {
     rows: BTreeSet<Row<C>>,
 }
 
@@ -79,5 +79,17 @@ impl<C: Cell> Relation<C> {
         ensures { self.new ≡ remove_key (is_at (slice_cmp C.cmp row.now)) self.old }
     {
         self.rows.remove(row);
+    }
+}
+
+impl<C: Cell> CopyIn for Relation<C> {
+    fn copy_in(&self, alloc: Global) -> Result<Relation<C>, AllocError> {
+        // The call tells the proof that the rows ascend.
+        let _count = self.rows.len();
+        let mut rows = BTreeSet::new(alloc);
+        for row in &self.rows {
+            rows.insert(row.copy_in(alloc)?)?;
+        }
+        Ok(Relation { rows })
     }
 }

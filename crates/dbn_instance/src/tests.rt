@@ -5,7 +5,8 @@ ghost use Rattle.std.specs.List.{All};
 ghost use Rattle.dbn_instance.specs.Facts.{fact_of};
 
 use super::{
-    Action, Change, Changes, Fact, FactPattern, FactPatterns, Facts, Instance, ground, net_changes,
+    Action, Change, Changes, Fact, FactPattern, FactPatterns, Facts, Instance,
+    facts_after_an_action, ground, net_changes,
 };
 use dbn_value::{
     Cell, Coder, ColType, CopyIn, Name, PlainCoder, Row, Term, TypedVars, ValueFault, Var,
@@ -174,6 +175,32 @@ fn facts_come_and_go(rt: HostRuntime) -> Result<(), Fail> {
     assert!(rt; facts_text(alloc, &instance)?.as_slice() == after);
     take_back(alloc, &mut instance, &second)?;
     assert!(rt; facts_text(alloc, &instance)?.as_slice() == before);
+    Ok(())
+}
+
+/// Adds the fact, where there is its relation, and tells whether it is new.
+fn insert<C: Cell>(instance: &mut Instance<C>, fact: Fact<C>) -> Result<bool, Fail> {
+    if fact.rel >= instance.relations() {
+        return Err(Fail::new("no such relation"));
+    }
+    Ok(instance.insert(fact)?)
+}
+
+#[test]
+fn a_copy_is_an_instance_of_its_own(rt: HostRuntime) -> Result<(), Fail> {
+    let alloc = rt.alloc();
+    let mut instance = Instance::<Plain>::new(alloc, 2)?;
+    make(alloc, &mut instance, first_changes(alloc)?.as_slice())?;
+    let copy = instance.copy_in(alloc)?;
+    let before = facts_text(alloc, &instance)?;
+    instance.add_relation(alloc)?;
+    assert!(rt; insert(&mut instance, fact(alloc, RESP, &["#0", "\"Ann\""])?)?);
+    assert!(rt; !insert(&mut instance, fact(alloc, RESP, &["#0", "\"Ann\""])?)?);
+    assert!(rt; copy.relations() == 2 && instance.relations() == 3);
+    assert!(rt; instance.has_row(RESP, &fact(alloc, RESP, &["#0", "\"Ann\""])?.row));
+    assert_eq!(rt; instance.row_set(TICKET).len(), 2);
+    assert!(rt; facts_text(alloc, &copy)?.as_slice() == before.as_slice());
+    facts_after_an_action::<Plain>();
     Ok(())
 }
 

@@ -1,7 +1,7 @@
 //! What no clause says: that calls succeed, at the cells of the plain coder and through the bound.
 
-use super::{AddFault, CountedRows, Marking};
-use dbn_value::{Cell, Coder, PlainCoder, Row, Value};
+use super::{AddFault, CountedRows, MAX_COUNT, Marking};
+use dbn_value::{Cell, Coder, CopyIn, PlainCoder, Row, Value};
 use std::alloc::{AllocError, Global};
 use std::test::Fail;
 
@@ -90,6 +90,26 @@ fn tokens_of_a_row_are_counted_together(rt: HostRuntime) -> Result<(), Fail> {
 }
 
 #[test]
+fn a_copy_is_a_marking_of_its_own(rt: HostRuntime) -> Result<(), Fail> {
+    let alloc = rt.alloc();
+    let mut marking = with_tokens(alloc, &[(5, 3)])?;
+    let copy = marking.copy_in(alloc)?;
+    marking.add_place(alloc)?;
+    assert!(rt; copy.places() == 2 && marking.places() == 3);
+    assert_eq!(rt; take(&mut marking, 1, &ints(alloc, &[5])?, 1), Some(false));
+    assert!(rt; marking.places() == 3);
+    assert_eq!(rt;
+        add(alloc, &mut marking, 2, ints(alloc, &[6])?, 1),
+        Some(Ok(true))
+    );
+    assert!(rt; marking.places() == 3);
+    assert_eq!(rt; marking.counts(2).len(), 1);
+    assert_eq!(rt; copy.count(1, &ints(alloc, &[5])?), 3);
+    assert_eq!(rt; marking.count(1, &ints(alloc, &[5])?), 2);
+    Ok(())
+}
+
+#[test]
 fn the_last_token_takes_the_row(rt: HostRuntime) -> Result<(), Fail> {
     let alloc = rt.alloc();
     let mut marking = with_tokens(alloc, &[(5, 3), (-5, 1)])?;
@@ -107,7 +127,7 @@ fn the_last_token_takes_the_row(rt: HostRuntime) -> Result<(), Fail> {
 #[test]
 fn the_greatest_count(rt: HostRuntime) -> Result<(), Fail> {
     let alloc = rt.alloc();
-    let mut marking = with_tokens(alloc, &[(1, 4_294_967_295)])?;
+    let mut marking = with_tokens(alloc, &[(1, MAX_COUNT)])?;
     let again = add(alloc, &mut marking, 1, ints(alloc, &[1])?, 1);
     assert_eq!(rt; again, Some(Err(AddFault::CountLimit)));
     assert!(rt; marking.places() == 2);
