@@ -17,7 +17,7 @@ use Rattle.dbn_formula.specs.Free.{unhidden, occurrences}
 use Rattle.dbn_formula.specs.Answers.{constants}
 use Rattle.dbn_formula.specs.Typing.{Shapes, entered, types_fit}
 use Rattle.dbn_formula.specs.Distinct.{distinct_vars, distinct}
-use Rattle.dbn_formula.specs.Safe.{all_in, known, test_safe, outside, in_turn, safe, steady, clear, arranged, as_level}
+use Rattle.dbn_formula.specs.Safe.{all_in, known, test_safe, outside, in_turn, safe, safe_in_order, is_apart, arranged, as_level}
 use Rattle.dbn_formula.specs.declared.formula.Formula.{Formula}
 use Rattle.dbn_formula.specs.declared.formula.Formula.TheVariants.{Atom, Test, And, Or, Not, Implies, Exists, Forall}
 use Rattle.dbn_formula.proofs.Induction.{induction}
@@ -28,7 +28,7 @@ use Rattle.dbn_formula.proofs.FreeLaws.{occurrences_and, occurrences_or, occurre
 use Rattle.dbn_formula.proofs.ConstantsLaws.{constants_and, constants_or, constants_not, constants_implies, constants_exists, constants_forall}
 use Rattle.dbn_formula.proofs.TypingLaws.{types_and, types_or, types_not, types_implies, types_exists, types_forall}
 use Rattle.dbn_formula.proofs.DistinctLaws.{distinct_and, distinct_or, distinct_not, distinct_implies, distinct_exists, distinct_forall}
-use Rattle.dbn_formula.proofs.SafeLaws.{safe_and, safe_or, safe_not, safe_implies, safe_exists, safe_forall, safe_test, steady_atom, steady_test, steady_and, steady_or, steady_not, steady_implies, steady_exists, steady_forall, clear_atom, clear_test, clear_and, clear_or, clear_not, clear_implies, clear_exists, clear_forall, arranged_atom, arranged_test, arranged_and, arranged_or, arranged_not, arranged_implies, arranged_exists, arranged_forall}
+use Rattle.dbn_formula.proofs.SafeLaws.{safe_and, safe_or, safe_not, safe_implies, safe_exists, safe_forall, safe_test, in_order_atom, in_order_test, in_order_and, in_order_or, in_order_not, in_order_implies, in_order_exists, in_order_forall, apart_atom, apart_test, apart_and, apart_or, apart_not, apart_implies, apart_exists, apart_forall, arranged_atom, arranged_test, arranged_and, arranged_or, arranged_not, arranged_implies, arranged_exists, arranged_forall}
 use Rattle.dbn_formula.proofs.VariableLaws.{in_of_is, is_of_in, in_unhidden, unhidden_in}
 use Rattle.dbn_formula.proofs.OrderOfParts.{first_safe, taken, order, taken_is, order_is, SplitBy, first_split, all_arranged, ordered, all_ordered, any_ordered, Alike, flat_ordered}
 
@@ -241,42 +241,42 @@ bound_alike vars xs ys alike =
     (λ e. let found = any_in (binds vars) xs e in in_any (binds vars) found.0 ys (alike.there found.0 found.1) found.2)
     (λ e. let found = any_in (binds vars) ys e in in_any (binds vars) found.0 xs (alike.back found.0 found.1) found.2)
 
-abbrev pub SteadyAlike : Formula → Type 0
-SteadyAlike f = (xs ys : List Var) → Alike xs ys → steady f xs ≡ steady f ys
+abbrev pub InOrderAlike : Formula → Type 0
+InOrderAlike f = (xs ys : List Var) → Alike xs ys → safe_in_order f xs ≡ safe_in_order f ys
 
 pub alike_self : {A : Type 0} (xs : List A) → Alike xs xs
 alike_self xs = record { there = λ x at. at; back = λ x at. at }
 
-pub turn_alike : (fs : List Formula) → AllByRecursion SteadyAlike fs → (xs ys : List Var) → Alike xs ys → in_turn (map as_level fs) xs ≡ in_turn (map as_level fs) ys
+pub turn_alike : (fs : List Formula) → AllByRecursion InOrderAlike fs → (xs ys : List Var) → Alike xs ys → in_turn (map as_level fs) xs ≡ in_turn (map as_level fs) ys
 turn_alike [] each xs ys alike = refl
 turn_alike (f ∷ fs) each xs ys alike =
     ap (λ b. b && in_turn (map as_level fs) (xs ++ occurrences f)) (each.0 xs ys alike)
-    ∙ ap (λ b. steady f ys && b) (turn_alike fs each.1 (xs ++ occurrences f) (ys ++ occurrences f) (alike_append xs (occurrences f) ys (occurrences f) alike (alike_self (occurrences f))))
+    ∙ ap (λ b. safe_in_order f ys && b) (turn_alike fs each.1 (xs ++ occurrences f) (ys ++ occurrences f) (alike_append xs (occurrences f) ys (occurrences f) alike (alike_self (occurrences f))))
 
-or_alike : (all : List Var) (fs : List Formula) → AllByRecursion SteadyAlike fs → (xs ys : List Var) → Alike xs ys
-    → list_all (λ f. steady f xs && all_in all (xs ++ occurrences f)) fs ≡ list_all (λ f. steady f ys && all_in all (ys ++ occurrences f)) fs
+or_alike : (all : List Var) (fs : List Formula) → AllByRecursion InOrderAlike fs → (xs ys : List Var) → Alike xs ys
+    → list_all (λ f. safe_in_order f xs && all_in all (xs ++ occurrences f)) fs ≡ list_all (λ f. safe_in_order f ys && all_in all (ys ++ occurrences f)) fs
 or_alike all [] each xs ys alike = refl
 or_alike all (f ∷ fs) each xs ys alike =
-    ap (λ b. (b && all_in all (xs ++ occurrences f)) && list_all (λ g. steady g xs && all_in all (xs ++ occurrences g)) fs) (each.0 xs ys alike)
-    ∙ ap (λ b. (steady f ys && b) && list_all (λ g. steady g xs && all_in all (xs ++ occurrences g)) fs)
+    ap (λ b. (b && all_in all (xs ++ occurrences f)) && list_all (λ g. safe_in_order g xs && all_in all (xs ++ occurrences g)) fs) (each.0 xs ys alike)
+    ∙ ap (λ b. (safe_in_order f ys && b) && list_all (λ g. safe_in_order g xs && all_in all (xs ++ occurrences g)) fs)
     (all_in_alike all (xs ++ occurrences f) (ys ++ occurrences f) (alike_append xs (occurrences f) ys (occurrences f) alike (alike_self (occurrences f))))
-    ∙ ap (λ b. (steady f ys && all_in all (ys ++ occurrences f)) && b) (or_alike all fs each.1 xs ys alike)
+    ∙ ap (λ b. (safe_in_order f ys && all_in all (ys ++ occurrences f)) && b) (or_alike all fs each.1 xs ys alike)
 
-pub steady_alike : (f : Formula) → SteadyAlike f
-steady_alike = induction SteadyAlike (record {
-  atom = λ rel terms xs ys alike. steady_atom rel terms xs ∙ sym (steady_atom rel terms ys);
-  test = λ c left right xs ys alike. steady_test c left right xs ∙ test_alike c left right xs ys alike ∙ sym (steady_test c left right ys);
-  both = λ fs each xs ys alike. steady_and fs xs ∙ turn_alike fs each xs ys alike ∙ sym (steady_and fs ys);
-  either = λ fs each xs ys alike. steady_or fs xs ∙ or_alike (flat_map occurrences fs) fs each xs ys alike ∙ sym (steady_or fs ys);
+pub in_order_alike : (f : Formula) → InOrderAlike f
+in_order_alike = induction InOrderAlike (record {
+  atom = λ rel terms xs ys alike. in_order_atom rel terms xs ∙ sym (in_order_atom rel terms ys);
+  test = λ c left right xs ys alike. in_order_test c left right xs ∙ test_alike c left right xs ys alike ∙ sym (in_order_test c left right ys);
+  both = λ fs each xs ys alike. in_order_and fs xs ∙ turn_alike fs each xs ys alike ∙ sym (in_order_and fs ys);
+  either = λ fs each xs ys alike. in_order_or fs xs ∙ or_alike (flat_map occurrences fs) fs each xs ys alike ∙ sym (in_order_or fs ys);
   denial = λ f here xs ys alike.
-      steady_not f xs ∙ ap (λ b. b && steady f xs) (all_in_alike (occurrences f) xs ys alike) ∙ ap (λ b. all_in (occurrences f) ys && b) (here xs ys alike) ∙ sym (steady_not f ys);
-  implication = λ f g here there xs ys alike. steady_implies f g xs ∙ sym (steady_implies f g ys);
+      in_order_not f xs ∙ ap (λ b. b && safe_in_order f xs) (all_in_alike (occurrences f) xs ys alike) ∙ ap (λ b. all_in (occurrences f) ys && b) (here xs ys alike) ∙ sym (in_order_not f ys);
+  implication = λ f g here there xs ys alike. in_order_implies f g xs ∙ sym (in_order_implies f g ys);
   some = λ vars f here xs ys alike.
-      steady_exists vars f xs ∙ ap (λ b. not b && steady f xs) (bound_alike vars xs ys alike) ∙ ap (λ b. not (list_any (binds vars) ys) && b) (here xs ys alike) ∙ sym (steady_exists vars f ys);
-  every = λ vars f here xs ys alike. steady_forall vars f xs ∙ sym (steady_forall vars f ys);
+      in_order_exists vars f xs ∙ ap (λ b. not b && safe_in_order f xs) (bound_alike vars xs ys alike) ∙ ap (λ b. not (list_any (binds vars) ys) && b) (here xs ys alike) ∙ sym (in_order_exists vars f ys);
+  every = λ vars f here xs ys alike. in_order_forall vars f xs ∙ sym (in_order_forall vars f ys);
 })
 
--- ---- where fewer variables are bound, a formula stays clear of them
+-- ---- where fewer variables are bound, a formula stays apart from them
 
 abbrev pub Within : List Var → List Var → Type 0
 Within xs ys = (x : Var) → In x xs → In x ys
@@ -284,8 +284,8 @@ Within xs ys = (x : Var) → In x xs → In x ys
 pub within_more : (xs ys zs : List Var) → Within xs ys → Within (xs ++ zs) (ys ++ zs)
 within_more xs ys zs within x at = ⊎_elim (λ here. append_left x ys zs (within x here)) (λ there. append_right x ys zs there) (in_append x xs zs at)
 
-abbrev ClearLess : Formula → Type 0
-ClearLess f = (xs ys : List Var) → Within xs ys → clear f ys ≡ true → clear f xs ≡ true
+abbrev ApartLess : Formula → Type 0
+ApartLess f = (xs ys : List Var) → Within xs ys → is_apart f ys ≡ true → is_apart f xs ≡ true
 
 none_less : (vars : TypedVars) (xs ys : List Var) → Within xs ys → not (list_any (binds vars) ys) ≡ true → not (list_any (binds vars) xs) ≡ true
 none_less vars xs ys within e =
@@ -293,54 +293,54 @@ none_less vars xs ys within e =
     let found = any_in (binds vars) xs some in
     true≢false (sym (in_any (binds vars) found.0 ys (within found.0 found.1) found.2) ∙ not-true (list_any (binds vars) ys) e)))
 
-pub clear_less : (f : Formula) → ClearLess f
-clear_less = induction ClearLess (record {
-  atom = λ rel terms xs ys within e. clear_atom rel terms xs;
-  test = λ c left right xs ys within e. clear_test c left right xs;
+pub apart_less : (f : Formula) → ApartLess f
+apart_less = induction ApartLess (record {
+  atom = λ rel terms xs ys within e. apart_atom rel terms xs;
+  test = λ c left right xs ys within e. apart_test c left right xs;
   both = λ fs each xs ys within e.
-      clear_and fs xs ∙ all_from (λ f. clear f (xs ++ flat_map occurrences fs)) fs (λ f at.
-      recursion_at ClearLess f fs each at (xs ++ flat_map occurrences fs) (ys ++ flat_map occurrences fs) (within_more xs ys (flat_map occurrences fs) within)
-      (all_at (λ g. clear g (ys ++ flat_map occurrences fs)) f fs (sym (clear_and fs ys) ∙ e) at));
+      apart_and fs xs ∙ all_from (λ f. is_apart f (xs ++ flat_map occurrences fs)) fs (λ f at.
+      recursion_at ApartLess f fs each at (xs ++ flat_map occurrences fs) (ys ++ flat_map occurrences fs) (within_more xs ys (flat_map occurrences fs) within)
+      (all_at (λ g. is_apart g (ys ++ flat_map occurrences fs)) f fs (sym (apart_and fs ys) ∙ e) at));
   either = λ fs each xs ys within e.
-      clear_or fs xs ∙ all_from (λ f. clear f (xs ++ flat_map occurrences fs)) fs (λ f at.
-      recursion_at ClearLess f fs each at (xs ++ flat_map occurrences fs) (ys ++ flat_map occurrences fs) (within_more xs ys (flat_map occurrences fs) within)
-      (all_at (λ g. clear g (ys ++ flat_map occurrences fs)) f fs (sym (clear_or fs ys) ∙ e) at));
-  denial = λ f here xs ys within e. clear_not f xs ∙ here xs ys within (sym (clear_not f ys) ∙ e);
+      apart_or fs xs ∙ all_from (λ f. is_apart f (xs ++ flat_map occurrences fs)) fs (λ f at.
+      recursion_at ApartLess f fs each at (xs ++ flat_map occurrences fs) (ys ++ flat_map occurrences fs) (within_more xs ys (flat_map occurrences fs) within)
+      (all_at (λ g. is_apart g (ys ++ flat_map occurrences fs)) f fs (sym (apart_or fs ys) ∙ e) at));
+  denial = λ f here xs ys within e. apart_not f xs ∙ here xs ys within (sym (apart_not f ys) ∙ e);
   implication = λ f g here there xs ys within e.
-      let parts = and_parts (clear f (ys ++ occurrences g)) (clear g (ys ++ occurrences f)) (sym (clear_implies f g ys) ∙ e) in
-      clear_implies f g xs
-      ∙ and_from (clear f (xs ++ occurrences g)) (clear g (xs ++ occurrences f))
+      let parts = and_parts (is_apart f (ys ++ occurrences g)) (is_apart g (ys ++ occurrences f)) (sym (apart_implies f g ys) ∙ e) in
+      apart_implies f g xs
+      ∙ and_from (is_apart f (xs ++ occurrences g)) (is_apart g (xs ++ occurrences f))
       (here (xs ++ occurrences g) (ys ++ occurrences g) (within_more xs ys (occurrences g) within) parts.0)
       (there (xs ++ occurrences f) (ys ++ occurrences f) (within_more xs ys (occurrences f) within) parts.1);
   some = λ vars f here xs ys within e.
       let names : List Var = map (λ x. x.0) vars in
-      let parts = and_parts (not (list_any (binds vars) ys)) (clear f (ys ++ names)) (sym (clear_exists vars f ys) ∙ e) in
-      clear_exists vars f xs
-      ∙ and_from (not (list_any (binds vars) xs)) (clear f (xs ++ names)) (none_less vars xs ys within parts.0) (here (xs ++ names) (ys ++ names) (within_more xs ys names within) parts.1);
+      let parts = and_parts (not (list_any (binds vars) ys)) (is_apart f (ys ++ names)) (sym (apart_exists vars f ys) ∙ e) in
+      apart_exists vars f xs
+      ∙ and_from (not (list_any (binds vars) xs)) (is_apart f (xs ++ names)) (none_less vars xs ys within parts.0) (here (xs ++ names) (ys ++ names) (within_more xs ys names within) parts.1);
   every = λ vars f here xs ys within e.
       let names : List Var = map (λ x. x.0) vars in
-      let parts = and_parts (not (list_any (binds vars) ys)) (clear f (ys ++ names)) (sym (clear_forall vars f ys) ∙ e) in
-      clear_forall vars f xs
-      ∙ and_from (not (list_any (binds vars) xs)) (clear f (xs ++ names)) (none_less vars xs ys within parts.0) (here (xs ++ names) (ys ++ names) (within_more xs ys names within) parts.1);
+      let parts = and_parts (not (list_any (binds vars) ys)) (is_apart f (ys ++ names)) (sym (apart_forall vars f ys) ∙ e) in
+      apart_forall vars f xs
+      ∙ and_from (not (list_any (binds vars) xs)) (is_apart f (xs ++ names)) (none_less vars xs ys within parts.0) (here (xs ++ names) (ys ++ names) (within_more xs ys names within) parts.1);
 })
 
 -- ---- safe from left to right
 
-abbrev pub IsSteady : Formula → Type 0
-IsSteady f = (bound : List Var) → safe f bound ≡ true → clear f bound ≡ true → steady (arranged f bound) bound ≡ true
+abbrev pub IsInOrder : Formula → Type 0
+IsInOrder f = (bound : List Var) → safe f bound ≡ true → is_apart f bound ≡ true → safe_in_order (arranged f bound) bound ≡ true
 
 -- the conjuncts that are left, in the order in which they are taken
-taken_steady : (n : ℕ) (fs : List Formula) (bound all : List Var) → ((h : Formula) → In h fs → IsSteady h) → ((h : Formula) → In h fs → clear h all ≡ true)
+taken_in_order : (n : ℕ) (fs : List Formula) (bound all : List Var) → ((h : Formula) → In h fs → IsInOrder h) → ((h : Formula) → In h fs → is_apart h all ≡ true)
     → Within bound all → ((h : Formula) → In h fs → Within (occurrences h) all) → taken n fs bound ≡ true → in_turn (map as_level (order n fs bound)) bound ≡ true
-taken_steady zero [] bound all known clears within occur e = refl
-taken_steady (suc n) [] bound all known clears within occur e = refl
-taken_steady zero (f ∷ fs) bound all known clears within occur e = absurd (true≢false (sym e))
-taken_steady (suc n) (f ∷ fs) bound all known clears within occur e =
-    after (first_safe (f ∷ fs) bound) (first_split (f ∷ fs) bound) e (λ gs more. taken_steady n gs more all)
+taken_in_order zero [] bound all known are_apart within occur e = refl
+taken_in_order (suc n) [] bound all known are_apart within occur e = refl
+taken_in_order zero (f ∷ fs) bound all known are_apart within occur e = absurd (true≢false (sym e))
+taken_in_order (suc n) (f ∷ fs) bound all known are_apart within occur e =
+    after (first_safe (f ∷ fs) bound) (first_split (f ∷ fs) bound) e (λ gs more. taken_in_order n gs more all)
   where
     after : (found : Option (Formula × List Formula)) → SplitBy (f ∷ fs) bound found
         → option_map_or (λ (g : Formula × List Formula). taken n g.1 (bound ++ occurrences g.0)) found false ≡ true
-        → ((gs : List Formula) (more : List Var) → ((h : Formula) → In h gs → IsSteady h) → ((h : Formula) → In h gs → clear h all ≡ true)
+        → ((gs : List Formula) (more : List Var) → ((h : Formula) → In h gs → IsInOrder h) → ((h : Formula) → In h gs → is_apart h all ≡ true)
         → Within more all → ((h : Formula) → In h gs → Within (occurrences h) all) → taken n gs more ≡ true → in_turn (map as_level (order n gs more)) more ≡ true)
         → in_turn (map as_level (option_map_or (λ (g : Formula × List Formula). arranged g.0 bound ∷ order n g.1 (bound ++ occurrences g.0)) found (map (λ g. arranged g bound) (f ∷ fs)))) bound ≡ true
     after None split e next = absurd (true≢false (sym e))
@@ -348,47 +348,47 @@ taken_steady (suc n) (f ∷ fs) bound all known clears within occur e =
         let more : List Var = bound ++ occurrences g.0 in
         let rest : List Formula = order n g.1 more in
         let turn : in_turn (map as_level rest) more ≡ true =
-        next g.1 more (λ h at. known h (split.others h at)) (λ h at. clears h (split.others h at))
+        next g.1 more (λ h at. known h (split.others h at)) (λ h at. are_apart h (split.others h at))
         (λ x at. ⊎_elim (λ here. within x here) (λ there. occur g.0 split.first x there) (in_append x bound (occurrences g.0) at))
         (λ h at. occur h (split.others h at)) e in
-        let first : steady (arranged g.0 bound) bound ≡ true =
-        known g.0 split.first bound split.is_safe (clear_less g.0 bound all within (clears g.0 split.first)) in
-        and_from (steady (arranged g.0 bound) bound) (in_turn (map as_level rest) (bound ++ occurrences (arranged g.0 bound))) first
+        let first : safe_in_order (arranged g.0 bound) bound ≡ true =
+        known g.0 split.first bound split.is_safe (apart_less g.0 bound all within (are_apart g.0 split.first)) in
+        and_from (safe_in_order (arranged g.0 bound) bound) (in_turn (map as_level rest) (bound ++ occurrences (arranged g.0 bound))) first
         (turn_alike rest (recursion_everywhere rest) (bound ++ occurrences (arranged g.0 bound)) more
         (alike_append bound (occurrences (arranged g.0 bound)) bound (occurrences g.0) (alike_self bound) (arranged_free g.0 bound)) ∙ turn)
       where
-        recursion_everywhere : (hs : List Formula) → AllByRecursion SteadyAlike hs
+        recursion_everywhere : (hs : List Formula) → AllByRecursion InOrderAlike hs
         recursion_everywhere [] = tt
-        recursion_everywhere (h ∷ hs) = (steady_alike h, recursion_everywhere hs)
+        recursion_everywhere (h ∷ hs) = (in_order_alike h, recursion_everywhere hs)
 
 -- no quantified variable is bound, so all stay bound inside
 pub outside_all : (vars : TypedVars) (bound : List Var) → not (list_any (binds vars) bound) ≡ true → outside vars bound ≡ bound
 outside_all vars bound e =
     filter_all (λ x. not (binds vars x)) bound (λ x at. not_from_false (binds vars x) (fails_at (binds vars) x bound (not-true (list_any (binds vars) bound) e) at))
 
-pub arranged_steady : (f : Formula) → IsSteady f
-arranged_steady = induction IsSteady (record {
-  atom = λ rel terms bound e c. ap (λ g. steady g bound) (arranged_atom rel terms bound) ∙ steady_atom rel terms bound;
-  test = λ o left right bound e c. ap (λ g. steady g bound) (arranged_test o left right bound) ∙ steady_test o left right bound ∙ sym (safe_test o left right bound) ∙ e;
+pub arranged_in_order : (f : Formula) → IsInOrder f
+arranged_in_order = induction IsInOrder (record {
+  atom = λ rel terms bound e c. ap (λ g. safe_in_order g bound) (arranged_atom rel terms bound) ∙ in_order_atom rel terms bound;
+  test = λ o left right bound e c. ap (λ g. safe_in_order g bound) (arranged_test o left right bound) ∙ in_order_test o left right bound ∙ sym (safe_test o left right bound) ∙ e;
   both = λ fs each bound e c.
       let gs : List Formula = order (length fs) fs bound in
       let all : List Var = bound ++ flat_map occurrences fs in
-      ap (λ g. steady g bound) (arranged_and fs bound ∙ ap And (order_is (length fs) fs bound)) ∙ steady_and gs bound
-      ∙ taken_steady (length fs) fs bound all (λ h at. recursion_at IsSteady h fs each at) (λ h at. all_at (λ g. clear g all) h fs (sym (clear_and fs bound) ∙ c) at)
+      ap (λ g. safe_in_order g bound) (arranged_and fs bound ∙ ap And (order_is (length fs) fs bound)) ∙ in_order_and gs bound
+      ∙ taken_in_order (length fs) fs bound all (λ h at. recursion_at IsInOrder h fs each at) (λ h at. all_at (λ g. is_apart g all) h fs (sym (apart_and fs bound) ∙ c) at)
       (λ x at. append_left x bound (flat_map occurrences fs) at) (λ h at x here. append_right x bound (flat_map occurrences fs) (flat_in occurrences x h fs at here))
       (sym (taken_is (length fs) fs bound) ∙ sym (safe_and fs bound) ∙ e);
   either = λ fs each bound e c.
       let gs : List Formula = map (λ f. arranged f bound) fs in
       let all : List Var = flat_map occurrences fs in
       let same : Alike (flat_map occurrences gs) all = flat_ordered occurrences fs gs (all_arranged fs bound) (λ h at b. arranged_free h b) in
-      ap (λ g. steady g bound) (arranged_or fs bound) ∙ steady_or gs bound
-      ∙ all_from (λ g. steady g bound && all_in (flat_map occurrences gs) (bound ++ occurrences g)) gs (λ g at.
+      ap (λ g. safe_in_order g bound) (arranged_or fs bound) ∙ in_order_or gs bound
+      ∙ all_from (λ g. safe_in_order g bound && all_in (flat_map occurrences gs) (bound ++ occurrences g)) gs (λ g at.
       let found = in_map (λ f. arranged f bound) g fs at in
       let h : Formula = found.0 in
       let safes = and_parts (safe h bound) (all_in all (bound ++ occurrences h)) (all_at (λ k. safe k bound && all_in all (bound ++ occurrences k)) h fs (sym (safe_or fs bound) ∙ e) found.1) in
-      let here : steady (arranged h bound) bound ≡ true =
-      recursion_at IsSteady h fs each found.1 bound safes.0
-      (clear_less h bound (bound ++ all) (λ x within. append_left x bound all within) (all_at (λ k. clear k (bound ++ all)) h fs (sym (clear_or fs bound) ∙ c) found.1)) in
+      let here : safe_in_order (arranged h bound) bound ≡ true =
+      recursion_at IsInOrder h fs each found.1 bound safes.0
+      (apart_less h bound (bound ++ all) (λ x within. append_left x bound all within) (all_at (λ k. is_apart k (bound ++ all)) h fs (sym (apart_or fs bound) ∙ c) found.1)) in
       let binds_all : all_in (flat_map occurrences gs) (bound ++ occurrences (arranged h bound)) ≡ true =
       all_from (λ x. is_in x (bound ++ occurrences (arranged h bound))) (flat_map occurrences gs) (λ x within.
       let known : In x (bound ++ occurrences h) = in_of_is x (bound ++ occurrences h) (all_at (λ y. is_in y (bound ++ occurrences h)) x all safes.1 (same.there x within)) in
@@ -396,23 +396,23 @@ arranged_steady = induction IsSteady (record {
       (λ old. append_left x bound (occurrences (arranged h bound)) old)
       (λ new. append_right x bound (occurrences (arranged h bound)) ((arranged_free h bound).back x new))
       (in_append x bound (occurrences h) known))) in
-      subst (λ k. steady k bound && all_in (flat_map occurrences gs) (bound ++ occurrences k) ≡ true) (sym found.2)
-      (and_from (steady (arranged h bound) bound) (all_in (flat_map occurrences gs) (bound ++ occurrences (arranged h bound))) here binds_all));
+      subst (λ k. safe_in_order k bound && all_in (flat_map occurrences gs) (bound ++ occurrences k) ≡ true) (sym found.2)
+      (and_from (safe_in_order (arranged h bound) bound) (all_in (flat_map occurrences gs) (bound ++ occurrences (arranged h bound))) here binds_all));
   denial = λ f here bound e c.
       let parts = and_parts (all_in (occurrences f) bound) (safe f bound) (sym (safe_not f bound) ∙ e) in
       let inner : Formula = arranged f bound in
-      ap (λ g. steady g bound) (arranged_not f bound) ∙ steady_not inner bound
-      ∙ and_from (all_in (occurrences inner) bound) (steady inner bound)
+      ap (λ g. safe_in_order g bound) (arranged_not f bound) ∙ in_order_not inner bound
+      ∙ and_from (all_in (occurrences inner) bound) (safe_in_order inner bound)
       (all_from (λ x. is_in x bound) (occurrences inner) (λ x at. all_at (λ y. is_in y bound) x (occurrences f) parts.0 ((arranged_free f bound).there x at)))
-      (here bound parts.1 (sym (clear_not f bound) ∙ c));
+      (here bound parts.1 (sym (apart_not f bound) ∙ c));
   implication = λ f g here there bound e c. absurd (true≢false (sym e ∙ safe_implies f g bound));
   some = λ vars f here bound e c.
       let names : List Var = map (λ x. x.0) vars in
-      let parts = and_parts (not (list_any (binds vars) bound)) (clear f (bound ++ names)) (sym (clear_exists vars f bound) ∙ c) in
+      let parts = and_parts (not (list_any (binds vars) bound)) (is_apart f (bound ++ names)) (sym (apart_exists vars f bound) ∙ c) in
       let same : outside vars bound ≡ bound = outside_all vars bound parts.0 in
       let safe_body : safe f bound ≡ true = ap (safe f) (sym same) ∙ sym (safe_exists vars f bound) ∙ e in
-      let clear_body : clear f bound ≡ true = clear_less f bound (bound ++ names) (λ x at. append_left x bound names at) parts.1 in
-      ap (λ g. steady g bound) (arranged_exists vars f bound ∙ ap (λ b. Exists vars (arranged f b)) same) ∙ steady_exists vars (arranged f bound) bound
-      ∙ and_from (not (list_any (binds vars) bound)) (steady (arranged f bound) bound) parts.0 (here bound safe_body clear_body);
+      let apart_body : is_apart f bound ≡ true = apart_less f bound (bound ++ names) (λ x at. append_left x bound names at) parts.1 in
+      ap (λ g. safe_in_order g bound) (arranged_exists vars f bound ∙ ap (λ b. Exists vars (arranged f b)) same) ∙ in_order_exists vars (arranged f bound) bound
+      ∙ and_from (not (list_any (binds vars) bound)) (safe_in_order (arranged f bound) bound) parts.0 (here bound safe_body apart_body);
   every = λ vars f here bound e c. absurd (true≢false (sym e ∙ safe_forall vars f bound));
 })

@@ -19,7 +19,7 @@ use Rattle.dbn_formula.specs.Holds.{Env, Domain, Instance, lookup, value_of, mee
 use Rattle.dbn_formula.specs.Free.{variable_of, occurrences}
 use Rattle.dbn_formula.specs.Answers.{constant_of, constants}
 use Rattle.dbn_formula.specs.Typing.{Shapes, entered, type_in, term_type, agree, terms_fit, sides_fit, types_fit}
-use Rattle.dbn_formula.specs.Safe.{all_in, known, test_safe, in_turn, steady, as_level}
+use Rattle.dbn_formula.specs.Safe.{all_in, known, test_safe, in_turn, safe_in_order, as_level}
 use Rattle.dbn_formula.specs.Ready.{IsValued, AreValued, RowIn, RowsIn, ValuesIn}
 use Rattle.dbn_formula.specs.declared.formula.Formula.{Formula}
 use Rattle.dbn_formula.specs.declared.formula.Formula.TheVariants.{Atom, Test, And, Or, Not, Exists}
@@ -28,7 +28,7 @@ use Rattle.dbn_formula.proofs.HoldsLaws.{holds_atom, holds_test, holds_and, hold
 use Rattle.dbn_formula.proofs.FreeLaws.{occurrences_atom, occurrences_test, occurrences_and, occurrences_or, occurrences_not, occurrences_exists}
 use Rattle.dbn_formula.proofs.ConstantsLaws.{constants_test, constants_and, constants_or, constants_exists}
 use Rattle.dbn_formula.proofs.TypingLaws.{types_atom, types_test, types_and, types_or, types_exists}
-use Rattle.dbn_formula.proofs.SafeLaws.{steady_test, steady_and, steady_or, steady_not, steady_implies, steady_exists, steady_forall}
+use Rattle.dbn_formula.proofs.SafeLaws.{in_order_test, in_order_and, in_order_or, in_order_not, in_order_implies, in_order_exists, in_order_forall}
 use Rattle.dbn_formula.proofs.VariableLaws.{type_same, type_itself, in_of_is, in_unhidden, unhidden_in}
 use Rattle.dbn_formula.proofs.Choices.{choice_out, type_of_bound, entered_binds, valued_inside, valued_outside}
 
@@ -153,7 +153,7 @@ module _ (dom : Domain) (db : Instance) (rels : Shapes) (rows : RowsIn dom rels 
   -- ---- formulas
 
   abbrev pub Bounded : Formula → Type 0
-  Bounded f = (scope : TypedVars) (bound : List Var) (env : Env) → steady f bound ≡ true → types_fit rels f scope ≡ true → ((x : Var) → In x (occurrences f) → binds scope x ≡ true)
+  Bounded f = (scope : TypedVars) (bound : List Var) (env : Env) → safe_in_order f bound ≡ true → types_fit rels f scope ≡ true → ((x : Var) → In x (occurrences f) → binds scope x ≡ true)
       → ValuesIn dom (constants f) → AreValued dom scope bound env → holds_over dom db f env ≡ true → AreValued dom scope (occurrences f) env
 
   pub joined : (scope : TypedVars) (env : Env) (xs ys : List Var) → AreValued dom scope xs env → AreValued dom scope ys env → AreValued dom scope (xs ++ ys) env
@@ -164,7 +164,7 @@ module _ (dom : Domain) (db : Instance) (rels : Shapes) (rows : RowsIn dom rels 
       → AreValued dom scope bound env → list_all (λ f. holds_over dom db f env) fs ≡ true → AreValued dom scope (flat_map occurrences fs) env
   all_bounded [] each scope bound env turn fit scoped consts valued e = record { each = λ x at. absurd at }
   all_bounded (f ∷ fs) each scope bound env turn fit scoped consts valued e =
-      let turns = and_parts (steady f bound) (in_turn (map as_level fs) (bound ++ occurrences f)) turn in
+      let turns = and_parts (safe_in_order f bound) (in_turn (map as_level fs) (bound ++ occurrences f)) turn in
       let fits = and_parts (types_fit rels f scope) (list_all (λ g. types_fit rels g scope) fs) fit in
       let holds = and_parts (holds_over dom db f env) (list_all (λ g. holds_over dom db g env) fs) e in
       let first : AreValued dom scope (occurrences f) env =
@@ -176,13 +176,13 @@ module _ (dom : Domain) (db : Instance) (rels : Shapes) (rows : RowsIn dom rels 
 
   -- the variables of the part that holds, with those bound before, are those of all parts
   any_bounded : (fs : List Formula) → AllByRecursion Bounded fs → (all : List Var) (scope : TypedVars) (bound : List Var) (env : Env)
-      → list_all (λ f. steady f bound && all_in all (bound ++ occurrences f)) fs ≡ true
+      → list_all (λ f. safe_in_order f bound && all_in all (bound ++ occurrences f)) fs ≡ true
       → list_all (λ f. types_fit rels f scope) fs ≡ true → ((x : Var) → In x (flat_map occurrences fs) → binds scope x ≡ true) → ValuesIn dom (flat_map constants fs)
       → AreValued dom scope bound env → list_any (λ f. holds_over dom db f env) fs ≡ true → AreValued dom scope all env
   any_bounded [] each all scope bound env safe fit scoped consts valued e = absurd (true≢false (sym e))
   any_bounded (f ∷ fs) each all scope bound env safe fit scoped consts valued e =
-      let safes = and_parts (steady f bound && all_in all (bound ++ occurrences f)) (list_all (λ g. steady g bound && all_in all (bound ++ occurrences g)) fs) safe in
-      let here_safe = and_parts (steady f bound) (all_in all (bound ++ occurrences f)) safes.0 in
+      let safes = and_parts (safe_in_order f bound && all_in all (bound ++ occurrences f)) (list_all (λ g. safe_in_order g bound && all_in all (bound ++ occurrences g)) fs) safe in
+      let here_safe = and_parts (safe_in_order f bound) (all_in all (bound ++ occurrences f)) safes.0 in
       let fits = and_parts (types_fit rels f scope) (list_all (λ g. types_fit rels g scope) fs) fit in
       ⊎_elim
       (λ here.
@@ -209,7 +209,7 @@ module _ (dom : Domain) (db : Instance) (rels : Shapes) (rows : RowsIn dom rels 
   at_test : (c : Cmp) (left right : Term) → Bounded (Test c left right)
   at_test c left right scope bound env safe fit scoped consts valued e = record {
     each = λ x at.
-        comparison c scope bound env left right (subst (ValuesIn dom) (constants_test c left right) consts) valued (sym (steady_test c left right bound) ∙ safe)
+        comparison c scope bound env left right (subst (ValuesIn dom) (constants_test c left right) consts) valued (sym (in_order_test c left right bound) ∙ safe)
         (sym (types_test rels c left right scope) ∙ fit) (sym (holds_test dom db c left right env) ∙ e)
         (λ y within. scoped y (subst (In y) (sym (occurrences_test c left right)) within)) x (subst (In x) (occurrences_test c left right) at);
   }
@@ -217,23 +217,23 @@ module _ (dom : Domain) (db : Instance) (rels : Shapes) (rows : RowsIn dom rels 
   at_both : (fs : List Formula) → AllByRecursion Bounded fs → Bounded (And fs)
   at_both fs each scope bound env safe fit scoped consts valued e =
       subst (λ xs. AreValued dom scope xs env) (sym (occurrences_and fs))
-      (all_bounded fs each scope bound env (sym (steady_and fs bound) ∙ safe) (sym (types_and rels fs scope) ∙ fit)
+      (all_bounded fs each scope bound env (sym (in_order_and fs bound) ∙ safe) (sym (types_and rels fs scope) ∙ fit)
       (λ x at. scoped x (subst (In x) (sym (occurrences_and fs)) at)) (subst (ValuesIn dom) (constants_and fs) consts) valued (sym (holds_and dom db fs env) ∙ e))
 
   at_either : (fs : List Formula) → AllByRecursion Bounded fs → Bounded (Or fs)
   at_either fs each scope bound env safe fit scoped consts valued e =
       subst (λ xs. AreValued dom scope xs env) (sym (occurrences_or fs))
-      (any_bounded fs each (flat_map occurrences fs) scope bound env (sym (steady_or fs bound) ∙ safe) (sym (types_or rels fs scope) ∙ fit)
+      (any_bounded fs each (flat_map occurrences fs) scope bound env (sym (in_order_or fs bound) ∙ safe) (sym (types_or rels fs scope) ∙ fit)
       (λ x at. scoped x (subst (In x) (sym (occurrences_or fs)) at)) (subst (ValuesIn dom) (constants_or fs) consts) valued (sym (holds_or dom db fs env) ∙ e))
 
   at_denial : (f : Formula) → Bounded f → Bounded (Not f)
   at_denial f known_f scope bound env safe fit scoped consts valued e =
-      let parts = and_parts (all_in (occurrences f) bound) (steady f bound) (sym (steady_not f bound) ∙ safe) in
+      let parts = and_parts (all_in (occurrences f) bound) (safe_in_order f bound) (sym (in_order_not f bound) ∙ safe) in
       record { each = λ x at. valued.each x (in_of_is x bound (all_at (λ y. is_in y bound) x (occurrences f) parts.0 (subst (In x) (occurrences_not f) at))) }
 
   at_some : (vars : TypedVars) (f : Formula) → Bounded f → Bounded (Exists vars f)
   at_some vars f known_f scope bound env safe fit scoped consts valued e =
-      let parts = and_parts (not (list_any (binds vars) bound)) (steady f bound) (sym (steady_exists vars f bound) ∙ safe) in
+      let parts = and_parts (not (list_any (binds vars) bound)) (safe_in_order f bound) (sym (in_order_exists vars f bound) ∙ safe) in
       let choice = choice_out dom vars scope (holds_over dom db f) env (sym (holds_exists dom db vars f env) ∙ e) in
       let outside_bound : (x : Var) → In x bound → binds vars x ≡ false = λ x at. fails_at (binds vars) x bound (not-true (list_any (binds vars) bound) parts.0) at in
       let inner : AreValued dom (entered vars scope) (occurrences f) choice.0 =
@@ -259,7 +259,7 @@ module _ (dom : Domain) (db : Instance) (rels : Shapes) (rows : RowsIn dom rels 
     both = at_both;
     either = at_either;
     denial = at_denial;
-    implication = λ f g here there scope bound env safe fit scoped consts valued e. absurd (true≢false (sym safe ∙ steady_implies f g bound));
+    implication = λ f g here there scope bound env safe fit scoped consts valued e. absurd (true≢false (sym safe ∙ in_order_implies f g bound));
     some = at_some;
-    every = λ vars f here scope bound env safe fit scoped consts valued e. absurd (true≢false (sym safe ∙ steady_forall vars f bound));
+    every = λ vars f here scope bound env safe fit scoped consts valued e. absurd (true≢false (sym safe ∙ in_order_forall vars f bound));
   })

@@ -27,10 +27,11 @@ pub mod NormalLaws
 pub mod NormalMeaning
 pub mod NormalSize
 pub mod OrderOfParts
-pub mod RenameClear
+pub mod RenameApart
 pub mod RenameFree
 pub mod RenameLaws
 pub mod SafeLaws
+pub mod SeenLaws
 pub mod SizeKept
 pub mod SizeLaws
 pub mod SolutionLaws

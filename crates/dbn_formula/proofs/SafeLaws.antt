@@ -6,7 +6,7 @@ use Rattle.std.proofs.lemmas.List.Folds.{list_all-map, flat_map-map}
 use Rattle.dbn_value.specs.declared.term.Var.{Var}
 use Rattle.dbn_formula.specs.Variables.{binds}
 use Rattle.dbn_formula.specs.Free.{unhidden, occurrences}
-use Rattle.dbn_formula.specs.Safe.{Level, all_in, test_safe, outside, all_taken, in_order, in_turn, level_step, level_of, safe, steady, clear, arranged, as_level}
+use Rattle.dbn_formula.specs.Safe.{Level, all_in, test_safe, outside, all_taken, in_order, in_turn, level_step, level_of, safe, safe_in_order, is_apart, arranged, as_level}
 use Rattle.dbn_value.specs.declared.term.Term.{Term}
 use Rattle.dbn_value.specs.declared.term.Cmp.{Cmp}
 use Rattle.dbn_formula.specs.Variables.{TypedVars}
@@ -37,7 +37,7 @@ named = induction (λ f. (level_of f).vars ≡ occurrences f) (record {
 })
 
 pub level_is : (f : Formula) → level_of f ≡ as_level f
-unfolding safe steady clear arranged
+unfolding safe safe_in_order is_apart arranged
 level_is f = ap (λ xs. record (level_of f) { vars = xs }) (named f)
 
 all_levels : (fs : List Formula) → map level_of fs ≡ map as_level fs
@@ -112,75 +112,75 @@ pub safe_forall : (vars : TypedVars) (f : Formula) (bound : List Var) → safe (
 unfolding safe
 safe_forall vars f bound = ap (λ l. l.fit bound) (level_forall vars f)
 
-pub steady_atom : (rel : ℕ) (terms : List Term) (bound : List Var) → steady (Atom rel terms) bound ≡ true
-unfolding steady
-steady_atom rel terms bound = ap (λ l. l.steady bound) (level_atom rel terms)
+pub in_order_atom : (rel : ℕ) (terms : List Term) (bound : List Var) → safe_in_order (Atom rel terms) bound ≡ true
+unfolding safe_in_order
+in_order_atom rel terms bound = ap (λ l. l.safe_in_order bound) (level_atom rel terms)
 
-pub steady_test : (cmp : Cmp) (left right : Term) (bound : List Var) → steady (Test cmp left right) bound ≡ test_safe cmp left right bound
-unfolding steady
-steady_test cmp left right bound = ap (λ l. l.steady bound) (level_test cmp left right)
+pub in_order_test : (cmp : Cmp) (left right : Term) (bound : List Var) → safe_in_order (Test cmp left right) bound ≡ test_safe cmp left right bound
+unfolding safe_in_order
+in_order_test cmp left right bound = ap (λ l. l.safe_in_order bound) (level_test cmp left right)
 
-pub steady_and : (fs : List Formula) (bound : List Var) → steady (And fs) bound ≡ in_turn (map as_level fs) bound
-unfolding steady
-steady_and fs bound = ap (λ l. l.steady bound) (level_and fs)
+pub in_order_and : (fs : List Formula) (bound : List Var) → safe_in_order (And fs) bound ≡ in_turn (map as_level fs) bound
+unfolding safe_in_order
+in_order_and fs bound = ap (λ l. l.safe_in_order bound) (level_and fs)
 
-pub steady_or : (fs : List Formula) (bound : List Var) → steady (Or fs) bound ≡ list_all (λ f. steady f bound && all_in (flat_map occurrences fs) (bound ++ occurrences f)) fs
-unfolding steady
-steady_or fs bound = ap (λ l. l.steady bound) (level_or fs)
-    ∙ ap (λ xs. list_all (λ part. part.steady bound && all_in xs (bound ++ part.vars)) (map as_level fs)) (flat_map-map (λ part. part.vars) as_level fs)
-    ∙ list_all-map (λ part. part.steady bound && all_in (flat_map occurrences fs) (bound ++ part.vars)) as_level fs
+pub in_order_or : (fs : List Formula) (bound : List Var) → safe_in_order (Or fs) bound ≡ list_all (λ f. safe_in_order f bound && all_in (flat_map occurrences fs) (bound ++ occurrences f)) fs
+unfolding safe_in_order
+in_order_or fs bound = ap (λ l. l.safe_in_order bound) (level_or fs)
+    ∙ ap (λ xs. list_all (λ part. part.safe_in_order bound && all_in xs (bound ++ part.vars)) (map as_level fs)) (flat_map-map (λ part. part.vars) as_level fs)
+    ∙ list_all-map (λ part. part.safe_in_order bound && all_in (flat_map occurrences fs) (bound ++ part.vars)) as_level fs
 
-pub steady_not : (f : Formula) (bound : List Var) → steady (Not f) bound ≡ (all_in (occurrences f) bound && steady f bound)
-unfolding steady
-steady_not f bound = ap (λ l. l.steady bound) (level_not f)
+pub in_order_not : (f : Formula) (bound : List Var) → safe_in_order (Not f) bound ≡ (all_in (occurrences f) bound && safe_in_order f bound)
+unfolding safe_in_order
+in_order_not f bound = ap (λ l. l.safe_in_order bound) (level_not f)
 
-pub steady_implies : (f g : Formula) (bound : List Var) → steady (Implies f g) bound ≡ false
-unfolding steady
-steady_implies f g bound = ap (λ l. l.steady bound) (level_implies f g)
+pub in_order_implies : (f g : Formula) (bound : List Var) → safe_in_order (Implies f g) bound ≡ false
+unfolding safe_in_order
+in_order_implies f g bound = ap (λ l. l.safe_in_order bound) (level_implies f g)
 
-pub steady_exists : (vars : TypedVars) (f : Formula) (bound : List Var) → steady (Exists vars f) bound ≡ (not (list_any (binds vars) bound) && steady f bound)
-unfolding steady
-steady_exists vars f bound = ap (λ l. l.steady bound) (level_exists vars f)
+pub in_order_exists : (vars : TypedVars) (f : Formula) (bound : List Var) → safe_in_order (Exists vars f) bound ≡ (not (list_any (binds vars) bound) && safe_in_order f bound)
+unfolding safe_in_order
+in_order_exists vars f bound = ap (λ l. l.safe_in_order bound) (level_exists vars f)
 
-pub steady_forall : (vars : TypedVars) (f : Formula) (bound : List Var) → steady (Forall vars f) bound ≡ false
-unfolding steady
-steady_forall vars f bound = ap (λ l. l.steady bound) (level_forall vars f)
+pub in_order_forall : (vars : TypedVars) (f : Formula) (bound : List Var) → safe_in_order (Forall vars f) bound ≡ false
+unfolding safe_in_order
+in_order_forall vars f bound = ap (λ l. l.safe_in_order bound) (level_forall vars f)
 
-pub clear_atom : (rel : ℕ) (terms : List Term) (bound : List Var) → clear (Atom rel terms) bound ≡ true
-unfolding clear
-clear_atom rel terms bound = ap (λ l. l.clear bound) (level_atom rel terms)
+pub apart_atom : (rel : ℕ) (terms : List Term) (bound : List Var) → is_apart (Atom rel terms) bound ≡ true
+unfolding is_apart
+apart_atom rel terms bound = ap (λ l. l.is_apart bound) (level_atom rel terms)
 
-pub clear_test : (cmp : Cmp) (left right : Term) (bound : List Var) → clear (Test cmp left right) bound ≡ true
-unfolding clear
-clear_test cmp left right bound = ap (λ l. l.clear bound) (level_test cmp left right)
+pub apart_test : (cmp : Cmp) (left right : Term) (bound : List Var) → is_apart (Test cmp left right) bound ≡ true
+unfolding is_apart
+apart_test cmp left right bound = ap (λ l. l.is_apart bound) (level_test cmp left right)
 
-pub clear_and : (fs : List Formula) (bound : List Var) → clear (And fs) bound ≡ list_all (λ f. clear f (bound ++ flat_map occurrences fs)) fs
-unfolding clear
-clear_and fs bound = ap (λ l. l.clear bound) (level_and fs)
-    ∙ ap (λ xs. list_all (λ part. part.clear (bound ++ xs)) (map as_level fs)) (flat_map-map (λ part. part.vars) as_level fs)
-    ∙ list_all-map (λ part. part.clear (bound ++ flat_map occurrences fs)) as_level fs
+pub apart_and : (fs : List Formula) (bound : List Var) → is_apart (And fs) bound ≡ list_all (λ f. is_apart f (bound ++ flat_map occurrences fs)) fs
+unfolding is_apart
+apart_and fs bound = ap (λ l. l.is_apart bound) (level_and fs)
+    ∙ ap (λ xs. list_all (λ part. part.is_apart (bound ++ xs)) (map as_level fs)) (flat_map-map (λ part. part.vars) as_level fs)
+    ∙ list_all-map (λ part. part.is_apart (bound ++ flat_map occurrences fs)) as_level fs
 
-pub clear_or : (fs : List Formula) (bound : List Var) → clear (Or fs) bound ≡ list_all (λ f. clear f (bound ++ flat_map occurrences fs)) fs
-unfolding clear
-clear_or fs bound = ap (λ l. l.clear bound) (level_or fs)
-    ∙ ap (λ xs. list_all (λ part. part.clear (bound ++ xs)) (map as_level fs)) (flat_map-map (λ part. part.vars) as_level fs)
-    ∙ list_all-map (λ part. part.clear (bound ++ flat_map occurrences fs)) as_level fs
+pub apart_or : (fs : List Formula) (bound : List Var) → is_apart (Or fs) bound ≡ list_all (λ f. is_apart f (bound ++ flat_map occurrences fs)) fs
+unfolding is_apart
+apart_or fs bound = ap (λ l. l.is_apart bound) (level_or fs)
+    ∙ ap (λ xs. list_all (λ part. part.is_apart (bound ++ xs)) (map as_level fs)) (flat_map-map (λ part. part.vars) as_level fs)
+    ∙ list_all-map (λ part. part.is_apart (bound ++ flat_map occurrences fs)) as_level fs
 
-pub clear_not : (f : Formula) (bound : List Var) → clear (Not f) bound ≡ clear f bound
-unfolding clear
-clear_not f bound = ap (λ l. l.clear bound) (level_not f)
+pub apart_not : (f : Formula) (bound : List Var) → is_apart (Not f) bound ≡ is_apart f bound
+unfolding is_apart
+apart_not f bound = ap (λ l. l.is_apart bound) (level_not f)
 
-pub clear_implies : (f g : Formula) (bound : List Var) → clear (Implies f g) bound ≡ (clear f (bound ++ occurrences g) && clear g (bound ++ occurrences f))
-unfolding clear
-clear_implies f g bound = ap (λ l. l.clear bound) (level_implies f g)
+pub apart_implies : (f g : Formula) (bound : List Var) → is_apart (Implies f g) bound ≡ (is_apart f (bound ++ occurrences g) && is_apart g (bound ++ occurrences f))
+unfolding is_apart
+apart_implies f g bound = ap (λ l. l.is_apart bound) (level_implies f g)
 
-pub clear_exists : (vars : TypedVars) (f : Formula) (bound : List Var) → clear (Exists vars f) bound ≡ (not (list_any (binds vars) bound) && clear f (bound ++ map (λ x. x.0) vars))
-unfolding clear
-clear_exists vars f bound = ap (λ l. l.clear bound) (level_exists vars f)
+pub apart_exists : (vars : TypedVars) (f : Formula) (bound : List Var) → is_apart (Exists vars f) bound ≡ (not (list_any (binds vars) bound) && is_apart f (bound ++ map (λ x. x.0) vars))
+unfolding is_apart
+apart_exists vars f bound = ap (λ l. l.is_apart bound) (level_exists vars f)
 
-pub clear_forall : (vars : TypedVars) (f : Formula) (bound : List Var) → clear (Forall vars f) bound ≡ (not (list_any (binds vars) bound) && clear f (bound ++ map (λ x. x.0) vars))
-unfolding clear
-clear_forall vars f bound = ap (λ l. l.clear bound) (level_forall vars f)
+pub apart_forall : (vars : TypedVars) (f : Formula) (bound : List Var) → is_apart (Forall vars f) bound ≡ (not (list_any (binds vars) bound) && is_apart f (bound ++ map (λ x. x.0) vars))
+unfolding is_apart
+apart_forall vars f bound = ap (λ l. l.is_apart bound) (level_forall vars f)
 
 pub arranged_atom : (rel : ℕ) (terms : List Term) (bound : List Var) → arranged (Atom rel terms) bound ≡ Atom rel terms
 unfolding arranged
@@ -216,4 +216,4 @@ pub arranged_forall : (vars : TypedVars) (f : Formula) (bound : List Var) → ar
 unfolding arranged
 arranged_forall vars f bound = ap (λ l. l.make bound) (level_forall vars f)
 
-pub ruleset safe_laws = (safe_atom, safe_test, safe_and, safe_or, safe_not, safe_implies, safe_exists, safe_forall, steady_atom, steady_test, steady_and, steady_or, steady_not, steady_implies, steady_exists, steady_forall, clear_atom, clear_test, clear_and, clear_or, clear_not, clear_implies, clear_exists, clear_forall, arranged_atom, arranged_test, arranged_and, arranged_or, arranged_not, arranged_implies, arranged_exists, arranged_forall)
+pub ruleset safe_laws = (safe_atom, safe_test, safe_and, safe_or, safe_not, safe_implies, safe_exists, safe_forall, in_order_atom, in_order_test, in_order_and, in_order_or, in_order_not, in_order_implies, in_order_exists, in_order_forall, apart_atom, apart_test, apart_and, apart_or, apart_not, apart_implies, apart_exists, apart_forall, arranged_atom, arranged_test, arranged_and, arranged_or, arranged_not, arranged_implies, arranged_exists, arranged_forall)

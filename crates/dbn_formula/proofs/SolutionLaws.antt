@@ -20,7 +20,7 @@ use Rattle.dbn_formula.specs.Typing.{Shapes, type_in, arity_fits, types_fit, all
 use Rattle.dbn_formula.specs.Normal.{normal}
 use Rattle.dbn_formula.specs.Apart.{renamed}
 use Rattle.dbn_formula.specs.Distinct.{distinct_vars, distinct}
-use Rattle.dbn_formula.specs.Safe.{safe, steady}
+use Rattle.dbn_formula.specs.Safe.{safe, safe_in_order}
 use Rattle.dbn_formula.specs.Solve.{is_empty}
 use Rattle.dbn_formula.specs.Ready.{AreValued, RowIn, RowsIn, ValuesIn, Ready}
 use Rattle.dbn_formula.specs.Solutions.{solvable, solutions, HasShape, HasShapes, AcceptsQuery, AcceptsSentence, IsSolution}
@@ -39,11 +39,11 @@ use Rattle.dbn_formula.proofs.AnswersLaws.{in_answers, answers_in}
 use Rattle.dbn_formula.proofs.VariableLaws.{var_itself, type_itself, in_bound, bound_in, var_same}
 use Rattle.dbn_formula.proofs.RenameLaws.{renamed_holds}
 use Rattle.dbn_formula.proofs.RenameFree.{renamed_occurrences, renamed_constants}
-use Rattle.dbn_formula.proofs.RenameClear.{renamed_clear}
+use Rattle.dbn_formula.proofs.RenameApart.{renamed_apart}
 use Rattle.dbn_formula.proofs.DistinctLaws.{renamed_distinct}
 use Rattle.dbn_formula.proofs.TypesKept.{normal_types, renamed_types}
 use Rattle.dbn_formula.proofs.OrderOfParts.{Alike}
-use Rattle.dbn_formula.proofs.Arranged.{arranged_holds, arranged_types, arranged_distinct, arranged_free, arranged_constants, arranged_steady, alike_same, alike_then}
+use Rattle.dbn_formula.proofs.Arranged.{arranged_holds, arranged_types, arranged_distinct, arranged_free, arranged_constants, arranged_in_order, alike_same, alike_then}
 use Rattle.dbn_formula.proofs.Bounded.{bounded}
 use Rattle.dbn_formula.proofs.Solved.{Solves, solved}
 
@@ -108,12 +108,12 @@ module _ (rels : Shapes) (scope : TypedVars) (f : Formula) (db : Instance) (fits
   constants_known : ValuesIn (domain f db) (constants (solvable f))
   constants_known = record { each = λ v at. in_domain f db v (append_right v (values_in db) (constants f) ((solvable_constants f).there v at)) }
 
-  steady_here : steady (solvable f) [] ≡ true
-  steady_here = arranged_steady (renamed (normal f)) [] is_safe (renamed_clear (normal f))
+  in_order_here : safe_in_order (solvable f) [] ≡ true
+  in_order_here = arranged_in_order (renamed (normal f)) [] is_safe (renamed_apart (normal f))
 
   pub is_ready : Ready (domain f db) rels (solvable f) scope [] []
   is_ready = record {
-    safe_here = steady_here;
+    safe_here = in_order_here;
     typed = solvable_types rels f scope ∙ typed;
     once = solvable_distinct f;
     scoped = in_scope;
@@ -128,7 +128,7 @@ module _ (rels : Shapes) (scope : TypedVars) (f : Formula) (db : Instance) (fits
   -- a solution gives the free variables values of the domain
   pub valued : (g : Env) → holds_over (domain f db) db (solvable f) g ≡ true → AreValued (domain f db) scope (occurrences (solvable f)) g
   valued g e =
-      bounded (domain f db) db rels (rows_in f rels db fits) (solvable f) scope [] g steady_here (solvable_types rels f scope ∙ typed) in_scope constants_known
+      bounded (domain f db) db rels (rows_in f rels db fits) (solvable f) scope [] g in_order_here (solvable_types rels f scope ∙ typed) in_scope constants_known
       (record { each = λ x at. absurd at }) e
 
 -- ---- rows of values for the variables of a query

@@ -21,7 +21,7 @@ use Rattle.dbn_formula.specs.Free.{variable_of, occurrences}
 use Rattle.dbn_formula.specs.Answers.{constants}
 use Rattle.dbn_formula.specs.Typing.{Shapes, entered, types_fit}
 use Rattle.dbn_formula.specs.Distinct.{distinct_vars, distinct}
-use Rattle.dbn_formula.specs.Safe.{all_in, known, test_safe, in_turn, steady, as_level}
+use Rattle.dbn_formula.specs.Safe.{all_in, known, test_safe, in_turn, safe_in_order, as_level}
 use Rattle.dbn_formula.specs.Solve.{is_empty, is_bound, only_if, has_value, term_is, matched, all_run, choosable, dropped, chosen, solutions_over}
 use Rattle.dbn_formula.specs.Ready.{IsValued, AreValued, RowsIn, ValuesIn, Covers, Ready}
 use Rattle.dbn_formula.specs.declared.formula.Formula.{Formula}
@@ -32,7 +32,7 @@ use Rattle.dbn_formula.proofs.FreeLaws.{occurrences_atom, occurrences_test, occu
 use Rattle.dbn_formula.proofs.ConstantsLaws.{constants_and, constants_or, constants_not, constants_exists}
 use Rattle.dbn_formula.proofs.TypingLaws.{types_and, types_or, types_not, types_exists}
 use Rattle.dbn_formula.proofs.DistinctLaws.{distinct_and, distinct_or, distinct_not, distinct_exists}
-use Rattle.dbn_formula.proofs.SafeLaws.{steady_test, steady_and, steady_or, steady_not, steady_implies, steady_exists, steady_forall}
+use Rattle.dbn_formula.proofs.SafeLaws.{in_order_test, in_order_and, in_order_or, in_order_not, in_order_implies, in_order_exists, in_order_forall}
 use Rattle.dbn_formula.proofs.SolveLaws.{solve_atom, solve_test, solve_and, solve_or, solve_not, solve_exists}
 use Rattle.dbn_formula.proofs.Depends.{depends}
 use Rattle.dbn_formula.proofs.VariableLaws.{in_of_is, in_bound, in_unhidden, unhidden_in}
@@ -221,7 +221,7 @@ module _ (dom : Domain) (db : Instance) (rels : Shapes) (rows : RowsIn dom rels 
 
   first_ready : (f : Formula) (fs : List Formula) (scope : TypedVars) (bound : List Var) (e : Env) → ReadyAll (f ∷ fs) scope bound e → Ready dom rels f scope bound e
   first_ready f fs scope bound e ready = record {
-    safe_here = (and_parts (steady f bound) (in_turn (map as_level fs) (bound ++ occurrences f)) ready.safe_here).0;
+    safe_here = (and_parts (safe_in_order f bound) (in_turn (map as_level fs) (bound ++ occurrences f)) ready.safe_here).0;
     typed = (and_parts (types_fit rels f scope) (list_all (λ g. types_fit rels g scope) fs) ready.typed).0;
     once = (and_parts (distinct f) (list_all distinct fs) ready.once).0;
     scoped = λ x at. ready.scoped x (append_left x (occurrences f) (flat_map occurrences fs) at);
@@ -241,7 +241,7 @@ module _ (dom : Domain) (db : Instance) (rels : Shapes) (rows : RowsIn dom rels 
       let first = first_ready f fs scope bound e ready in
       let kept : AreValued dom scope bound g = valued_kept scope bound e g ready.covers sound.step.keeps ready.valued in
       record {
-        safe_here = (and_parts (steady f bound) (in_turn (map as_level fs) (bound ++ occurrences f)) ready.safe_here).1;
+        safe_here = (and_parts (safe_in_order f bound) (in_turn (map as_level fs) (bound ++ occurrences f)) ready.safe_here).1;
         typed = (and_parts (types_fit rels f scope) (list_all (λ h. types_fit rels h scope) fs) ready.typed).1;
         once = (and_parts (distinct f) (list_all distinct fs) ready.once).1;
         scoped = λ x at. ready.scoped x (append_right x (occurrences f) (flat_map occurrences fs) at);
@@ -289,7 +289,7 @@ module _ (dom : Domain) (db : Instance) (rels : Shapes) (rows : RowsIn dom rels 
   at_both : (fs : List Formula) → AllByRecursion Solved fs → Solved (And fs)
   at_both fs each scope bound e ready =
       let all : ReadyAll fs scope bound e = record {
-        safe_here = sym (steady_and fs bound) ∙ ready.safe_here;
+        safe_here = sym (in_order_and fs bound) ∙ ready.safe_here;
         typed = sym (types_and rels fs scope) ∙ ready.typed;
         once = sym (distinct_and fs) ∙ ready.once;
         scoped = λ x at. ready.scoped x (subst (In x) (sym (occurrences_and fs)) at);
@@ -344,8 +344,8 @@ module _ (dom : Domain) (db : Instance) (rels : Shapes) (rows : RowsIn dom rels 
   parts_ready : (fs : List Formula) (scope : TypedVars) (bound : List Var) (e : Env) → Ready dom rels (Or fs) scope bound e → AllByRecursion (ReadyPart (flat_map occurrences fs) scope bound e) fs
   parts_ready fs scope bound e ready =
       recursion_from (ReadyPart (flat_map occurrences fs) scope bound e) fs (λ f at.
-      let safes = and_parts (steady f bound) (all_in (flat_map occurrences fs) (bound ++ occurrences f))
-      (all_at (λ g. steady g bound && all_in (flat_map occurrences fs) (bound ++ occurrences g)) f fs (sym (steady_or fs bound) ∙ ready.safe_here) at) in (
+      let safes = and_parts (safe_in_order f bound) (all_in (flat_map occurrences fs) (bound ++ occurrences f))
+      (all_at (λ g. safe_in_order g bound && all_in (flat_map occurrences fs) (bound ++ occurrences g)) f fs (sym (in_order_or fs bound) ∙ ready.safe_here) at) in (
         record {
           safe_here = safes.0;
           typed = all_at (λ g. types_fit rels g scope) f fs (sym (types_or rels fs scope) ∙ ready.typed) at;
@@ -375,7 +375,7 @@ module _ (dom : Domain) (db : Instance) (rels : Shapes) (rows : RowsIn dom rels 
 
   at_denial : (f : Formula) → Solved f → Solved (Not f)
   at_denial f known_f scope bound e ready =
-      let safes = and_parts (all_in (occurrences f) bound) (steady f bound) (sym (steady_not f bound) ∙ ready.safe_here) in
+      let safes = and_parts (all_in (occurrences f) bound) (safe_in_order f bound) (sym (in_order_not f bound) ∙ ready.safe_here) in
       let has : (x : Var) → In x (occurrences f) → is_bound e x ≡ true = λ x at. ready.covers.has x (in_of_is x bound (all_at (λ y. is_in y bound) x (occurrences f) safes.0 at)) in
       let solves : Solves f e = known_f scope bound e (record {
         safe_here = safes.1;
@@ -411,7 +411,7 @@ module _ (dom : Domain) (db : Instance) (rels : Shapes) (rows : RowsIn dom rels 
   at_some : (vars : TypedVars) (f : Formula) → Solved f → Solved (Exists vars f)
   unfolding chosen
   at_some vars f known_f scope bound e ready =
-      let safes = and_parts (not (list_any (binds vars) bound)) (steady f bound) (sym (steady_exists vars f bound) ∙ ready.safe_here) in
+      let safes = and_parts (not (list_any (binds vars) bound)) (safe_in_order f bound) (sym (in_order_exists vars f bound) ∙ ready.safe_here) in
       let onces = and_parts (distinct_vars vars) (distinct f) (sym (distinct_exists vars f) ∙ ready.once) in
       let free_in : (x : Var) → In x bound → binds vars x ≡ false = λ x at. fails_at (binds vars) x bound (not-true (list_any (binds vars) bound) safes.0) at in
       let free_of : (x : Var) → is_bound e x ≡ true → binds vars x ≡ false = λ x b. free_in x (ready.covers.all x b) in
@@ -492,11 +492,11 @@ module _ (dom : Domain) (db : Instance) (rels : Shapes) (rows : RowsIn dom rels 
   pub solved : (f : Formula) → Solved f
   solved = induction Solved (record {
     atom = at_atom;
-    test = λ c left right scope bound e ready. comparison c left right bound e ready.covers (sym (steady_test c left right bound) ∙ ready.safe_here);
+    test = λ c left right scope bound e ready. comparison c left right bound e ready.covers (sym (in_order_test c left right bound) ∙ ready.safe_here);
     both = at_both;
     either = at_either;
     denial = at_denial;
-    implication = λ f g here there scope bound e ready. absurd (true≢false (sym ready.safe_here ∙ steady_implies f g bound));
+    implication = λ f g here there scope bound e ready. absurd (true≢false (sym ready.safe_here ∙ in_order_implies f g bound));
     some = at_some;
-    every = λ vars f here scope bound e ready. absurd (true≢false (sym ready.safe_here ∙ steady_forall vars f bound));
+    every = λ vars f here scope bound e ready. absurd (true≢false (sym ready.safe_here ∙ in_order_forall vars f bound));
   })

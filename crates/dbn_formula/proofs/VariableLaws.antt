@@ -3,14 +3,15 @@ use Rattle.std.proofs.Common.{◌≡◌, ℕ, inl, inr, ⊎_elim, Bool, true, fa
 use Rattle.std.specs.Ordering.{nat_cmp, is_eq}
 use Rattle.std.specs.declared.cmp.Ordering.{Ordering}
 use Rattle.std.specs.declared.cmp.Ordering.TheVariants.{Less, Equal, Greater}
-use Rattle.std.specs.Cmp.{tied_itself}
+use Rattle.std.specs.Cmp.{both_ways, tied_itself}
 use Rattle.std.specs.Cmp.Lexicographic.{slice_cmp, nat_list_cmp_total}
 use Rattle.std.specs.FinMap.{nat_cmp-IsAntisymmetric, slice_cmp-IsAntisymmetric}
 use Rattle.std.proofs.lemmas.Bool.{and_parts, and_from, eqb-true, eq-eqb, not_from_false, false_from_ne_true}
 use Rattle.std.proofs.lemmas.Map.Text.{is_eq-slice_cmp}
 use Rattle.dbn_value.specs.Names.{name_eq}
 use Rattle.dbn_value.specs.Members.{In}
-use Rattle.dbn_value.proofs.MemberLaws.{any_in, in_any, in_filter, filter_in}
+use Rattle.std.specs.List.{list_all}
+use Rattle.dbn_value.proofs.MemberLaws.{any_in, in_any, all_at, all_from, in_filter, filter_in}
 use Rattle.dbn_value.specs.declared.term.Var.{Var}
 use Rattle.dbn_value.specs.declared.value.ColType.{ColType}
 use Rattle.dbn_value.specs.declared.value.ColType.TheVariants as col
@@ -113,3 +114,10 @@ firsts_in x (y ∷ ys) at =
       | false ↦ λ e. inr (filter_in (λ z. not (var_eq y z)) x (firsts ys) (firsts_in x ys there) (not_from_false (var_eq y x) e))
     ] refl)
     at
+
+-- a test of all sees each variable once
+pub all_firsts : (t : Var → Bool) (xs : List Var) → list_all t (firsts xs) ≡ list_all t xs
+all_firsts t xs =
+    both_ways (list_all t (firsts xs)) (list_all t xs)
+    (λ e. all_from t xs (λ x at. all_at t x (firsts xs) e (firsts_in x xs at)))
+    (λ e. all_from t (firsts xs) (λ x at. all_at t x xs e (in_firsts x xs at)))

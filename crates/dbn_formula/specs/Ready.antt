@@ -13,7 +13,7 @@ use Rattle.dbn_formula.specs.Free.{occurrences}
 use Rattle.dbn_formula.specs.Answers.{constants}
 use Rattle.dbn_formula.specs.Typing.{Shapes, term_type, types_fit}
 use Rattle.dbn_formula.specs.Distinct.{distinct}
-use Rattle.dbn_formula.specs.Safe.{steady}
+use Rattle.dbn_formula.specs.Safe.{safe_in_order}
 use Rattle.dbn_formula.specs.Solve.{is_bound}
 use Rattle.dbn_formula.specs.declared.formula.Formula.{Formula}
 
@@ -48,7 +48,7 @@ pub record Covers (bound : List Var) (env : Env) : Type 0 where
 
 -- the formula is safe from left to right for the bound variables, is well typed in the scope, and the environment is made for it
 pub record Ready (dom : Domain) (rels : Shapes) (f : Formula) (scope : TypedVars) (bound : List Var) (env : Env) : Type 0 where
-  pub safe_here : steady f bound ≡ true
+  pub safe_here : safe_in_order f bound ≡ true
   pub typed : types_fit rels f scope ≡ true
   pub once : distinct f ≡ true
   pub scoped : (x : Var) → In x (occurrences f) → binds scope x ≡ true

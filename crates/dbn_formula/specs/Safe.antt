@@ -26,9 +26,9 @@ pub record Level : Type 0 where
   -- safe, with conjuncts taken in any order
   pub fit : (bound : List Var) → Bool
   -- safe with conjuncts taken from left to right, and no quantified variable is bound already
-  pub steady : (bound : List Var) → Bool
+  pub safe_in_order : (bound : List Var) → Bool
   -- no quantified variable is bound already or free beside its quantifier
-  pub clear : (bound : List Var) → Bool
+  pub is_apart : (bound : List Var) → Bool
   -- the same formula with conjuncts in the order in which the test takes them
   pub make : (bound : List Var) → Formula
 
@@ -82,7 +82,7 @@ in_order (suc n) (part ∷ parts) bound =
 -- from left to right
 abbrev pub in_turn : List Level → List Var → Bool
 in_turn [] bound = true
-in_turn (part ∷ parts) bound = part.steady bound && in_turn parts (bound ++ part.vars)
+in_turn (part ∷ parts) bound = part.safe_in_order bound && in_turn parts (bound ++ part.vars)
 
 -- each part is safe, and binds what the others bind
 abbrev pub or_safe : (Level → Bool) → List Level → List Var → Bool
@@ -103,25 +103,25 @@ fit_step (layer.Implies left right) bound = false
 fit_step (layer.Exists vars body) bound = body.fit (outside vars bound)
 fit_step (layer.Forall vars body) bound = false
 
-abbrev pub steady_step : Formula-F Level → List Var → Bool
-steady_step (layer.Atom rel terms) bound = true
-steady_step (layer.Test cmp left right) bound = test_safe cmp left right bound
-steady_step (layer.And parts) bound = in_turn parts bound
-steady_step (layer.Or parts) bound = or_safe (λ part. part.steady bound) parts bound
-steady_step (layer.Not part) bound = all_in part.vars bound && part.steady bound
-steady_step (layer.Implies left right) bound = false
-steady_step (layer.Exists vars body) bound = not (list_any (binds vars) bound) && body.steady bound
-steady_step (layer.Forall vars body) bound = false
+abbrev pub in_order_step : Formula-F Level → List Var → Bool
+in_order_step (layer.Atom rel terms) bound = true
+in_order_step (layer.Test cmp left right) bound = test_safe cmp left right bound
+in_order_step (layer.And parts) bound = in_turn parts bound
+in_order_step (layer.Or parts) bound = or_safe (λ part. part.safe_in_order bound) parts bound
+in_order_step (layer.Not part) bound = all_in part.vars bound && part.safe_in_order bound
+in_order_step (layer.Implies left right) bound = false
+in_order_step (layer.Exists vars body) bound = not (list_any (binds vars) bound) && body.safe_in_order bound
+in_order_step (layer.Forall vars body) bound = false
 
-abbrev pub clear_step : Formula-F Level → List Var → Bool
-clear_step (layer.Atom rel terms) bound = true
-clear_step (layer.Test cmp left right) bound = true
-clear_step (layer.And parts) bound = list_all (λ part. part.clear (bound ++ all_vars parts)) parts
-clear_step (layer.Or parts) bound = list_all (λ part. part.clear (bound ++ all_vars parts)) parts
-clear_step (layer.Not part) bound = part.clear bound
-clear_step (layer.Implies left right) bound = left.clear (bound ++ right.vars) && right.clear (bound ++ left.vars)
-clear_step (layer.Exists vars body) bound = not (list_any (binds vars) bound) && body.clear (bound ++ map (λ x. x.0) vars)
-clear_step (layer.Forall vars body) bound = not (list_any (binds vars) bound) && body.clear (bound ++ map (λ x. x.0) vars)
+abbrev pub apart_step : Formula-F Level → List Var → Bool
+apart_step (layer.Atom rel terms) bound = true
+apart_step (layer.Test cmp left right) bound = true
+apart_step (layer.And parts) bound = list_all (λ part. part.is_apart (bound ++ all_vars parts)) parts
+apart_step (layer.Or parts) bound = list_all (λ part. part.is_apart (bound ++ all_vars parts)) parts
+apart_step (layer.Not part) bound = part.is_apart bound
+apart_step (layer.Implies left right) bound = left.is_apart (bound ++ right.vars) && right.is_apart (bound ++ left.vars)
+apart_step (layer.Exists vars body) bound = not (list_any (binds vars) bound) && body.is_apart (bound ++ map (λ x. x.0) vars)
+apart_step (layer.Forall vars body) bound = not (list_any (binds vars) bound) && body.is_apart (bound ++ map (λ x. x.0) vars)
 
 abbrev pub make_step : Formula-F Level → List Var → Formula
 make_step (layer.Atom rel terms) bound = Atom rel terms
@@ -134,7 +134,7 @@ make_step (layer.Exists vars body) bound = Exists vars (body.make (outside vars 
 make_step (layer.Forall vars body) bound = Forall vars (body.make (outside vars bound))
 
 abbrev pub level_step : Formula-F Level → Level
-level_step f = record { vars = vars_step f; fit = fit_step f; steady = steady_step f; clear = clear_step f; make = make_step f }
+level_step f = record { vars = vars_step f; fit = fit_step f; safe_in_order = in_order_step f; is_apart = apart_step f; make = make_step f }
 
 unfoldable pub level_of : Formula → Level
 level_of f = fold-Formula Level level_step f
@@ -145,18 +145,18 @@ level_of f = fold-Formula Level level_step f
 unfoldable pub safe : Formula → List Var → Bool
 safe f bound = (level_of f).fit bound
 
-unfoldable pub steady : Formula → List Var → Bool
-steady f bound = (level_of f).steady bound
+unfoldable pub safe_in_order : Formula → List Var → Bool
+safe_in_order f bound = (level_of f).safe_in_order bound
 
-unfoldable pub clear : Formula → List Var → Bool
-clear f bound = (level_of f).clear bound
+unfoldable pub is_apart : Formula → List Var → Bool
+is_apart f bound = (level_of f).is_apart bound
 
 unfoldable pub arranged : Formula → List Var → Formula
 arranged f bound = (level_of f).make bound
 
 -- all of them again as one record
 abbrev pub as_level : Formula → Level
-as_level f = record { vars = occurrences f; fit = safe f; steady = steady f; clear = clear f; make = arranged f }
+as_level f = record { vars = occurrences f; fit = safe f; safe_in_order = safe_in_order f; is_apart = is_apart f; make = arranged f }
 
 -- ---- what is accepted
 

@@ -11,7 +11,7 @@ ghost use Rattle.dbn_formula.specs.Free.{free, occurrences};
 ghost use Rattle.dbn_formula.specs.Apart.{renamed};
 ghost use Rattle.dbn_formula.specs.Typing.{Shapes};
 ghost use Rattle.dbn_formula.specs.Distinct.{distinct};
-ghost use Rattle.dbn_formula.specs.Safe.{safe, steady, clear, arranged};
+ghost use Rattle.dbn_formula.specs.Safe.{safe, safe_in_order, is_apart, arranged};
 ghost use Rattle.dbn_formula.specs.Solve.{is_empty, is_bound, solutions_over};
 ghost use Rattle.dbn_formula.specs.Ready.{AreValued, RowsIn, Ready};
 ghost use Rattle.dbn_formula.specs.Solutions.{solvable, solutions, HasShapes, AcceptsQuery, AcceptsSentence, IsSolution};
@@ -22,7 +22,7 @@ pub fn renaming_keeps()
     ensures meaning { (dom : Domain) (db : Instance) (f : Formula) (env : Env) → holds_over dom db (renamed f) env ≡ holds_over dom db f env }
     ensures variables { (f : Formula) → free (renamed f) ≡ free f }
     ensures values { (f : Formula) → constants (renamed f) ≡ constants f }
-    ensures apart { (f : Formula) → clear (renamed f) [] ≡ true }
+    ensures apart { (f : Formula) → is_apart (renamed f) [] ≡ true }
     ensures once { (f : Formula) → distinct (renamed f) ≡ true }
 {}
 
@@ -34,7 +34,7 @@ pub fn arranging_keeps()
     ensures all_variables { (f : Formula) (bound : List Var) (x : Var) → In x (occurrences f) → In x (occurrences (arranged f bound)) }
     ensures values { (f : Formula) (bound : List Var) (v : Value) → In v (constants (arranged f bound)) → In v (constants f) }
     ensures all_values { (f : Formula) (bound : List Var) (v : Value) → In v (constants f) → In v (constants (arranged f bound)) }
-    ensures left_to_right { (f : Formula) (bound : List Var) → safe f bound ≡ true → clear f bound ≡ true → steady (arranged f bound) bound ≡ true }
+    ensures left_to_right { (f : Formula) (bound : List Var) → safe f bound ≡ true → is_apart f bound ≡ true → safe_in_order (arranged f bound) bound ≡ true }
 {}
 
 /// What is safe stays safe where more variables are bound.

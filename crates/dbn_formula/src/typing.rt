@@ -1,13 +1,12 @@
-ghost use Rattle.std.specs.Prelude.{◌≡◌, ◌⊎◌, [], Option, Some, None, slice_index_or, IfErr, OnOk};
+ghost use Rattle.std.specs.Prelude.{◌≡◌, ◌⊎◌, [], Option, Some, None, slice_index_or, IfOk, IfErr, OnOk};
 ghost use Rattle.std.specs.List.{list_all};
-ghost use Rattle.dbn_formula.specs.Variables.{type_eq, binds};
-ghost use Rattle.dbn_formula.specs.Typing.{arity_fits, entered, type_in, type_under, term_type, agree, terms_fit, sides_fit, types_fit, type_fault};
+ghost use Rattle.dbn_formula.specs.Variables.{binds};
+ghost use Rattle.dbn_formula.specs.Typing.{arity_fits, entered, type_in, type_under, term_type, agree, terms_fit, sides_fit, types_fit, all_bound, type_fault};
 ghost use Rattle.dbn_formula.specs.Scope.{entries};
 
 use super::formula::Formula;
-use super::variables::{add_occurrences, binds};
+use super::variables::{binds, free};
 use dbn_value::{Cell, Cmp, ColType, Shapes, Term, TypedVars, Var};
-use sqlite_items::Items;
 use std::alloc::{AllocError, Global};
 
 /// Why a formula isn't well typed, in the order in which the kinds are looked for.
@@ -57,15 +56,38 @@ pub fn type_check(
     if !arity_fits(f, rels) {
         return Err(TypeFault::Arity);
     }
-    if !types_fit(f, &Scope::Given(scope.as_slice()), rels) {
+    if !types_fit(f, scope.as_slice(), rels) {
         return Err(TypeFault::TypeClash);
     }
-    let mut used = Items::new(alloc);
-    add_occurrences(alloc, &mut used, f)?;
-    if !all_bound(used.as_slice(), scope.as_slice()) {
+    if !all_bound(alloc, f, scope.as_slice())? {
         return Err(TypeFault::Unbound);
     }
     Ok(())
+}
+
+/// Whether each term that has a type under the scope and over relations of these shapes has the type of its position: that of
+/// its column, or that of the other side of its comparison. A variable without a type fits. This takes no memory.
+pub fn types_fit(f: &Formula, scope: &[(Var, ColType)], rels: &Shapes) -> bool
+    ensures { result ≡ types_fit rels.now f.now scope.now }
+{
+    types_fit_at(f, &Scope::Given(scope), rels)
+}
+
+/// Whether each term that has a type under the scope has that of its column; where one list is longer, the rest of it fits.
+/// This takes no memory.
+pub fn terms_fit(terms: &[Term], shape: &[ColType], scope: &[(Var, ColType)]) -> bool
+    ensures { result ≡ terms_fit scope.now terms.now shape.now }
+{
+    terms_fit_at(terms, shape, &Scope::Given(scope))
+}
+
+/// Whether each free variable of the formula is in the scope. An error is want of memory.
+#[tactic(auto, using(crate::proofs::VariableLaws::all_firsts))]
+pub fn all_bound(alloc: Global, f: &Formula, scope: &[(Var, ColType)]) -> Result<bool, AllocError>
+    ensures { IfOk result (λ ok. ok ≡ all_bound f.now scope.now) }
+{
+    let used = free(alloc, f)?;
+    Ok(are_bound(used.as_slice(), scope))
 }
 
 /// The types of the columns of the relation.
@@ -78,10 +100,11 @@ fn columns(rels: &Shapes, rel: usize) -> &[ColType]
     }
 }
 
-/// Whether each atom has as many terms as its relation has columns.
+/// Whether each atom has as many terms as its relation of `rels` has columns; a number out of their range is taken for a
+/// relation without columns. This takes no memory.
 #[cycle(arity)]
 #[tactic(auto, using(crate::proofs::TypingLaws::typing_laws))]
-fn arity_fits(f: &Formula, rels: &Shapes) -> bool
+pub fn arity_fits(f: &Formula, rels: &Shapes) -> bool
     ensures { result ≡ arity_fits rels.now f.now }
 {
     match f {
@@ -112,11 +135,11 @@ fn each_arity_fits(parts: &[Formula], rels: &Shapes) -> bool
 /// Whether each term that has a type where it stands has the type of its position.
 #[cycle(types)]
 #[tactic(auto, using(crate::proofs::TypingLaws::typing_laws))]
-fn types_fit<'x>(f: &'x Formula, scope: &'x Scope<'x>, rels: &'x Shapes) -> bool
+fn types_fit_at<'x>(f: &'x Formula, scope: &'x Scope<'x>, rels: &'x Shapes) -> bool
     ensures { result ≡ types_fit rels.now f.now (entries scope.now) }
 {
     match f {
-        Formula::Atom { rel, terms } => terms_fit(terms.as_slice(), columns(rels, *rel), scope),
+        Formula::Atom { rel, terms } => terms_fit_at(terms.as_slice(), columns(rels, *rel), scope),
         Formula::Test { cmp, left, right } => sides_fit(
             *cmp,
             term_type(scope, left),
@@ -124,15 +147,15 @@ fn types_fit<'x>(f: &'x Formula, scope: &'x Scope<'x>, rels: &'x Shapes) -> bool
         ),
         Formula::And(parts) => each_types_fit(parts.as_slice(), &*scope, &*rels),
         Formula::Or(parts) => each_types_fit(parts.as_slice(), &*scope, &*rels),
-        Formula::Not(part) => types_fit(part.get(), &*scope, &*rels),
-        Formula::Implies(left, right) => types_fit(left.get(), &*scope, &*rels)
-            && types_fit(right.get(), &*scope, &*rels),
-        Formula::Exists { vars, body } => types_fit(
+        Formula::Not(part) => types_fit_at(part.get(), &*scope, &*rels),
+        Formula::Implies(left, right) => types_fit_at(left.get(), &*scope, &*rels)
+            && types_fit_at(right.get(), &*scope, &*rels),
+        Formula::Exists { vars, body } => types_fit_at(
             body.get(),
             &Scope::Inner(vars.as_slice(), &*scope),
             &*rels,
         ),
-        Formula::Forall { vars, body } => types_fit(
+        Formula::Forall { vars, body } => types_fit_at(
             body.get(),
             &Scope::Inner(vars.as_slice(), &*scope),
             &*rels,
@@ -145,7 +168,7 @@ fn each_types_fit<'x>(parts: &'x [Formula], scope: &'x Scope<'x>, rels: &'x Shap
     ensures { result ≡ list_all (λ f. types_fit rels.now f (entries scope.now)) parts.now }
 {
     for part in parts {
-        if !types_fit(part, &*scope, &*rels) {
+        if !types_fit_at(part, &*scope, &*rels) {
             return false;
         }
     }
@@ -153,7 +176,7 @@ fn each_types_fit<'x>(parts: &'x [Formula], scope: &'x Scope<'x>, rels: &'x Shap
 }
 
 /// Whether each term that has a type has that of its column.
-fn terms_fit(terms: &[Term], shape: &[ColType], scope: &Scope) -> bool
+fn terms_fit_at(terms: &[Term], shape: &[ColType], scope: &Scope) -> bool
     ensures { result ≡ terms_fit (entries scope.now) terms.now shape.now }
 {
     match terms {
@@ -161,7 +184,7 @@ fn terms_fit(terms: &[Term], shape: &[ColType], scope: &Scope) -> bool
         [term, terms @ ..] => match shape {
             [] => true,
             [column, shape @ ..] => agree(term_type(scope, term), Some(*column))
-                && terms_fit(terms, shape, scope),
+                && terms_fit_at(terms, shape, scope),
         },
     }
 }
@@ -183,21 +206,10 @@ fn agree(a: Option<ColType>, b: Option<ColType>) -> bool
 {
     match a {
         Some(a) => match b {
-            Some(b) => same_type(a, b),
+            Some(b) => a == b,
             None => true,
         },
         None => true,
-    }
-}
-
-/// Whether the two types are one.
-pub(crate) fn same_type(a: ColType, b: ColType) -> bool
-    ensures { result ≡ type_eq a b }
-{
-    match a {
-        ColType::Int => matches!(b, ColType::Int),
-        ColType::Text => matches!(b, ColType::Text),
-        ColType::Id => matches!(b, ColType::Id),
     }
 }
 
@@ -251,7 +263,7 @@ fn type_under(vars: &[(Var, ColType)], var: &Var, outside: Option<ColType>) -> O
 }
 
 /// Whether each variable is in the scope.
-fn all_bound(used: &[Var], scope: &[(Var, ColType)]) -> bool
+fn are_bound(used: &[Var], scope: &[(Var, ColType)]) -> bool
     ensures { result ≡ list_all (binds scope.now) used.now }
 {
     used.iter().all(|var| binds(scope, var))

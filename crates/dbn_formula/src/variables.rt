@@ -83,8 +83,8 @@ fn add_variables(alloc: Global, out: &mut Vars, terms: &[Term]) -> Result<(), Al
     Ok(())
 }
 
-/// Whether one of the typed variables is this one.
-pub(crate) fn binds(vars: &[(Var, ColType)], var: &Var) -> bool
+/// Whether one of the typed variables is this one. This takes no memory.
+pub fn binds(vars: &[(Var, ColType)], var: &Var) -> bool
     ensures { result ≡ binds vars.now var.now }
 {
     vars.iter().any(|other| var.same(&other.0))

@@ -1,4 +1,4 @@
-use Rattle.dbn_formula.proofs.Arranged.{arranged_holds, arranged_free, arranged_constants, arranged_steady}
+use Rattle.dbn_formula.proofs.Arranged.{arranged_holds, arranged_free, arranged_constants, arranged_in_order}
 use Rattle.dbn_formula.proofs.safety_laws.arranging_keeps.Goals as goal
 
 pub returns-clause-meaning : goal.returns-clause-meaning
@@ -17,4 +17,4 @@ pub returns-clause-all_values : goal.returns-clause-all_values
 returns-clause-all_values c = λ f bound v at. (arranged_constants f bound).back v at
 
 pub returns-clause-left_to_right : goal.returns-clause-left_to_right
-returns-clause-left_to_right c = arranged_steady
+returns-clause-left_to_right c = arranged_in_order

@@ -1,6 +1,6 @@
 use Rattle.dbn_formula.proofs.RenameLaws.{renamed_holds}
 use Rattle.dbn_formula.proofs.RenameFree.{renamed_free, renamed_constants}
-use Rattle.dbn_formula.proofs.RenameClear.{renamed_clear}
+use Rattle.dbn_formula.proofs.RenameApart.{renamed_apart}
 use Rattle.dbn_formula.proofs.DistinctLaws.{renamed_distinct}
 use Rattle.dbn_formula.proofs.safety_laws.renaming_keeps.Goals as goal
 
@@ -14,7 +14,7 @@ pub returns-clause-values : goal.returns-clause-values
 returns-clause-values c = renamed_constants
 
 pub returns-clause-apart : goal.returns-clause-apart
-returns-clause-apart c = renamed_clear
+returns-clause-apart c = renamed_apart
 
 pub returns-clause-once : goal.returns-clause-once
 returns-clause-once c = renamed_distinct

@@ -8,10 +8,10 @@ use Rattle.dbn_value.specs.declared.term.Var.{Var}
 use Rattle.dbn_formula.specs.declared.formula.Formula.{Formula}
 use Rattle.dbn_formula.specs.Variables.{TypedVars, binds}
 use Rattle.dbn_formula.specs.Free.{occurrences}
-use Rattle.dbn_formula.specs.Safe.{clear}
+use Rattle.dbn_formula.specs.Safe.{is_apart}
 use Rattle.dbn_formula.specs.Apart.{Renaming, marks, quantified_marks, next_mark, renamed_var, renamed_term, fresh, last_mark, opened, renamed_at, last_at, renamed_all, renamed}
 use Rattle.dbn_formula.proofs.Induction.{induction}
-use Rattle.dbn_formula.proofs.SafeLaws.{clear_atom, clear_test, clear_and, clear_or, clear_not, clear_implies, clear_exists, clear_forall}
+use Rattle.dbn_formula.proofs.SafeLaws.{apart_atom, apart_test, apart_and, apart_or, apart_not, apart_implies, apart_exists, apart_forall}
 use Rattle.dbn_formula.proofs.ApartLaws.{marks_and, marks_or, marks_not, marks_implies, marks_exists, marks_forall, renamed_atom, renamed_test, renamed_and, renamed_or, renamed_not, renamed_implies, renamed_exists, renamed_forall}
 use Rattle.dbn_formula.proofs.RenameLaws.{IsOld, AreOld, MarksIn, old_grows, more_old, last_mark_above, opened_old, last_above, nothing_renamed}
 use Rattle.dbn_formula.proofs.RenameFree.{are_marked, old_not_fresh, renames_free}
@@ -63,37 +63,37 @@ module _ (used : List ℕ) where
       })
       (all_free_old fs (λ m at. within m (append_right m (marks f) (flat_map marks fs) at)) names (last_at used f names n) k old (le_trans h (last_above used f names n)))
 
-  abbrev IsClear : Formula → Type 0
-  IsClear f = MarksIn used (marks f) → (names : Renaming) (n : ℕ) (bound : List Var) → AreOld used names n → AllOld used n bound → clear (renamed_at used f names n) bound ≡ true
+  abbrev IsApart : Formula → Type 0
+  IsApart f = MarksIn used (marks f) → (names : Renaming) (n : ℕ) (bound : List Var) → AreOld used names n → AllOld used n bound → is_apart (renamed_at used f names n) bound ≡ true
 
-  all_clear : (fs : List Formula) → AllByRecursion IsClear fs → MarksIn used (flat_map marks fs) → (names : Renaming) (n : ℕ) (bound : List Var) → AreOld used names n → AllOld used n bound
-      → list_all (λ f. clear f bound) (renamed_all used fs names n) ≡ true
-  all_clear [] each within names n bound old known = refl
-  all_clear (f ∷ fs) each within names n bound old known =
+  all_apart : (fs : List Formula) → AllByRecursion IsApart fs → MarksIn used (flat_map marks fs) → (names : Renaming) (n : ℕ) (bound : List Var) → AreOld used names n → AllOld used n bound
+      → list_all (λ f. is_apart f bound) (renamed_all used fs names n) ≡ true
+  all_apart [] each within names n bound old known = refl
+  all_apart (f ∷ fs) each within names n bound old known =
       let next : ℕ = last_at used f names n in
       let h : n ≤ next = last_above used f names n in
-      and_from (clear (renamed_at used f names n) bound) (list_all (λ g. clear g bound) (renamed_all used fs names next))
+      and_from (is_apart (renamed_at used f names n) bound) (list_all (λ g. is_apart g bound) (renamed_all used fs names next))
       (each.0 (λ m at. within m (append_left m (marks f) (flat_map marks fs) at)) names n bound old known)
-      (all_clear fs each.1 (λ m at. within m (append_right m (marks f) (flat_map marks fs) at)) names next bound (more_old used names n next h old) (later used n next bound h known))
+      (all_apart fs each.1 (λ m at. within m (append_right m (marks f) (flat_map marks fs) at)) names next bound (more_old used names n next h old) (later used n next bound h known))
 
-  pub is_clear : (f : Formula) → IsClear f
-  is_clear = induction IsClear (record {
-    atom = λ rel terms within names n bound old known. ap (λ g. clear g bound) (renamed_atom used rel terms names n) ∙ clear_atom rel (map (renamed_term names) terms) bound;
-    test = λ cmp left right within names n bound old known. ap (λ g. clear g bound) (renamed_test used cmp left right names n) ∙ clear_test cmp (renamed_term names left) (renamed_term names right) bound;
+  pub comes_apart : (f : Formula) → IsApart f
+  comes_apart = induction IsApart (record {
+    atom = λ rel terms within names n bound old known. ap (λ g. is_apart g bound) (renamed_atom used rel terms names n) ∙ apart_atom rel (map (renamed_term names) terms) bound;
+    test = λ cmp left right within names n bound old known. ap (λ g. is_apart g bound) (renamed_test used cmp left right names n) ∙ apart_test cmp (renamed_term names left) (renamed_term names right) bound;
     both = λ fs each within names n bound old known.
         let here : MarksIn used (flat_map marks fs) = λ m at. within m (subst (In m) (sym (marks_and fs)) at) in
         let parts : List Formula = renamed_all used fs names n in
-        ap (λ g. clear g bound) (renamed_and used fs names n) ∙ clear_and parts bound
-        ∙ all_clear fs each here names n (bound ++ flat_map occurrences parts) old
+        ap (λ g. is_apart g bound) (renamed_and used fs names n) ∙ apart_and parts bound
+        ∙ all_apart fs each here names n (bound ++ flat_map occurrences parts) old
         (joined used n bound (flat_map occurrences parts) known (all_free_old fs here names n n old (omega arith)));
     either = λ fs each within names n bound old known.
         let here : MarksIn used (flat_map marks fs) = λ m at. within m (subst (In m) (sym (marks_or fs)) at) in
         let parts : List Formula = renamed_all used fs names n in
-        ap (λ g. clear g bound) (renamed_or used fs names n) ∙ clear_or parts bound
-        ∙ all_clear fs each here names n (bound ++ flat_map occurrences parts) old
+        ap (λ g. is_apart g bound) (renamed_or used fs names n) ∙ apart_or parts bound
+        ∙ all_apart fs each here names n (bound ++ flat_map occurrences parts) old
         (joined used n bound (flat_map occurrences parts) known (all_free_old fs here names n n old (omega arith)));
     denial = λ f here within names n bound old known.
-        ap (λ g. clear g bound) (renamed_not used f names n) ∙ clear_not (renamed_at used f names n) bound
+        ap (λ g. is_apart g bound) (renamed_not used f names n) ∙ apart_not (renamed_at used f names n) bound
         ∙ here (λ m at. within m (subst (In m) (sym (marks_not f)) at)) names n bound old known;
     implication = λ f g here there within names n bound old known.
         let each : MarksIn used (marks f ++ marks g) = λ m at. within m (subst (In m) (sym (marks_implies f g)) at) in
@@ -108,8 +108,8 @@ module _ (used : List ℕ) where
               let found = in_map (renamed_var names) x (occurrences g) (subst (In x) (renames_free used g each_g names next (more_old used names n next h old)) at) in
               subst (IsOld used n) (sym found.2) (old.each found.0 (each_g found.0.mark (are_marked g found.0 found.1)));
         } in
-        ap (λ k. clear k bound) (renamed_implies used f g names n) ∙ clear_implies left right bound
-        ∙ and_from (clear left (bound ++ occurrences right)) (clear right (bound ++ occurrences left))
+        ap (λ k. is_apart k bound) (renamed_implies used f g names n) ∙ apart_implies left right bound
+        ∙ and_from (is_apart left (bound ++ occurrences right)) (is_apart right (bound ++ occurrences left))
         (here each_f names n (bound ++ occurrences right) old (joined used n bound (occurrences right) known g_old))
         (there each_g names next (bound ++ occurrences left) (more_old used names n next h old)
         (later used n next (bound ++ occurrences left) h (joined used n bound (occurrences left) known (free_old f each_f names n old))));
@@ -118,8 +118,8 @@ module _ (used : List ℕ) where
         let inside : Renaming = opened used vars n names in
         let next : ℕ = last_mark used vars n in
         let names_in : List Var = map (λ x. x.0) (fresh used vars n) in
-        ap (λ g. clear g bound) (renamed_exists used vars f names n) ∙ clear_exists (fresh used vars n) (renamed_at used f inside next) bound
-        ∙ and_from (not (list_any (binds (fresh used vars n)) bound)) (clear (renamed_at used f inside next) (bound ++ names_in))
+        ap (λ g. is_apart g bound) (renamed_exists used vars f names n) ∙ apart_exists (fresh used vars n) (renamed_at used f inside next) bound
+        ∙ and_from (not (list_any (binds (fresh used vars n)) bound)) (is_apart (renamed_at used f inside next) (bound ++ names_in))
         (none_bound used vars n bound known)
         (here each inside next (bound ++ names_in) (opened_old used vars n names old)
         (joined used next bound names_in (later used n next bound (last_mark_above used vars n) known) (fresh_old used vars n)));
@@ -128,13 +128,13 @@ module _ (used : List ℕ) where
         let inside : Renaming = opened used vars n names in
         let next : ℕ = last_mark used vars n in
         let names_in : List Var = map (λ x. x.0) (fresh used vars n) in
-        ap (λ g. clear g bound) (renamed_forall used vars f names n) ∙ clear_forall (fresh used vars n) (renamed_at used f inside next) bound
-        ∙ and_from (not (list_any (binds (fresh used vars n)) bound)) (clear (renamed_at used f inside next) (bound ++ names_in))
+        ap (λ g. is_apart g bound) (renamed_forall used vars f names n) ∙ apart_forall (fresh used vars n) (renamed_at used f inside next) bound
+        ∙ and_from (not (list_any (binds (fresh used vars n)) bound)) (is_apart (renamed_at used f inside next) (bound ++ names_in))
         (none_bound used vars n bound known)
         (here each inside next (bound ++ names_in) (opened_old used vars n names old)
         (joined used next bound names_in (later used n next bound (last_mark_above used vars n) known) (fresh_old used vars n)));
   })
 
 -- nothing is bound outside the whole formula
-pub renamed_clear : (f : Formula) → clear (renamed f) [] ≡ true
-renamed_clear f = is_clear (marks f) f (λ m at. at) [] 0 [] (nothing_renamed (marks f)) (record { each = λ x at. absurd at })
+pub renamed_apart : (f : Formula) → is_apart (renamed f) [] ≡ true
+renamed_apart f = comes_apart (marks f) f (λ m at. at) [] 0 [] (nothing_renamed (marks f)) (record { each = λ x at. absurd at })

@@ -1,5 +1,0 @@
-use Rattle.std.proofs.Common.{length}
-use Rattle.dbn_formula.proofs.typing.+terms_fit.Given as goal
-
-abbrev pub decreases-terms_fit : goal.decreases-terms_fit
-decreases-terms_fit l = length l.terms.now
