@@ -13,3 +13,5 @@ pub mod NamedFormulas
 pub mod NamedRules
 pub mod JudgedLaws
 pub mod PassesLaws
+pub mod AtomLaws
+mod TextExamples
