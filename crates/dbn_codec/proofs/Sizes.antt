@@ -1,6 +1,6 @@
 -- How long bodies are.
-use Rattle.std.proofs.Common.{◌≡◌, ℕ, suc, ◌+◌, ◌*◌, ◌^◌, ◌<◌, ◌≤◌, List, [], ◌∷◌, ◌++◌, length, All, ap, ◌∙◌, arith}
-use Rattle.std.specs.Int.{w16, w64, to_be_bytes, cast_unsigned}
+use Rattle.std.proofs.Common.{◌*◌, ◌^◌, ◌<◌, ◌≤◌, List, [], ◌∷◌, length, All, ap, arith}
+use Rattle.std.specs.Int.{w16, to_be_bytes}
 use Rattle.std.specs.List.{flat_map, AllByRecursion}
 use Rattle.std.proofs.lemmas.List.{length-append}
 use Rattle.std.proofs.lemmas.List.Concat.{flat_map-cons}
@@ -9,7 +9,7 @@ use Rattle.dbn_value.specs.Spelling.{IsValue}
 use Rattle.dbn_value.specs.declared.value.Value.{Value}
 use Rattle.dbn_value.specs.declared.value.Value.TheVariants.{Int, Text, Id}
 use Rattle.dbn_codec.specs.declared.member.Member.{Member}
-use Rattle.dbn_codec.specs.Bodies.{value_bytes, member_bytes, member_of, body, group_body, most_members}
+use Rattle.dbn_codec.specs.Bodies.{value_bytes, member_bytes, body, group_body, most_members}
 use Rattle.dbn_codec.proofs.Texts.{text_is_short}
 
 value_size : (v : Value) → IsValue v → length (value_bytes v) ≤ 4099

@@ -1,7 +1,7 @@
 -- The length of a text.
-use Rattle.std.proofs.Common.{◌≡◌, ℕ, ◌<◌, ◌≤◌, Bool, true, false, List, length, inl, inr}
+use Rattle.std.proofs.Common.{ℕ, ◌≤◌, List, length, inl, inr}
 use Rattle.std.proofs.lemmas.Bool.{cases_lt}
-use Rattle.dbn_value.specs.Text.{is_text, IsText}
+use Rattle.dbn_value.specs.Text.{IsText}
 use Rattle.dbn_value.proofs.Texts.{too_long}
 
 pub text_is_short : (bytes : List ℕ) → IsText bytes → length bytes ≤ 4096

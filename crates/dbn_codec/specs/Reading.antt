@@ -1,5 +1,5 @@
 -- Reading a body from the left: a part is read as what it stands for and the bytes behind it, or it is no such part.
-use Rattle.std.specs.Prelude.{◌≡◌, ℕ, zero, suc, ◌^◌, Bool, ◌&&◌, not, List, [], ◌∷◌, length, take, drop, Option, Some, None, Result, Ok, Err, nat_lt, nat_le, ◌==◌, if◌then◌else◌, slice_get}
+use Rattle.std.specs.Prelude.{◌≡◌, ℕ, zero, suc, ◌^◌, ◌&&◌, List, [], ◌∷◌, length, take, drop, Option, Some, None, Result, Ok, Err, nat_lt, nat_le, ◌==◌, if◌then◌else◌, slice_get}
 use Rattle.std.specs.Int.{Width, w16, w64, byte_len, from_be_bytes, cast_signed}
 use Rattle.dbn_value.specs.Text.{is_text}
 use Rattle.dbn_value.specs.declared.value.ColType.{ColType}

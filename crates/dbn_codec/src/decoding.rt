@@ -5,7 +5,7 @@ ghost use Rattle.std.specs.Option.{option_map};
 ghost use Rattle.std.specs.Int.{w16, w64};
 ghost use Rattle.dbn_codec.specs.declared.member.Member.{Member as OneMember};
 ghost use Rattle.dbn_codec.specs.Bodies.{body, group_body, as_member, IsMember, IsGroup};
-ghost use Rattle.dbn_codec.specs.Reading.{Gives, behind, number_at, text_of, int_at, text_at, id_at, value_at, row_at, member_at, members_at, read_body, read_group};
+ghost use Rattle.dbn_codec.specs.Reading.{Gives, behind, number_at, text_of, int_at, text_at, id_at, value_at, row_at, member_at, members_at, whole, read_body, read_group};
 
 use crate::encoding::{ID_TAG, INT_TAG, MAX_MEMBERS, TEXT_TAG};
 use crate::member::{Member, Members};
@@ -146,7 +146,7 @@ fn member_at<'a>(
 /// So many members at the front.
 fn members_at<'a>(
     alloc: Global,
-    count: u16,
+    count: usize,
     shapes: &Shapes,
     bytes: &'a [u8],
 ) -> Result<(Members, &'a [u8]), Unread>
@@ -162,17 +162,24 @@ fn members_at<'a>(
     Ok((members, rest))
 }
 
+/// What was read, where nothing stands behind it.
+fn whole<T: Drop>(part: T, rest: &[u8]) -> Result<T, Unread>
+    ensures { Gives (λ part. part) result (whole (part, rest.now)) }
+{
+    if rest.is_empty() {
+        Ok(part)
+    } else {
+        Err(Unread::NoBody)
+    }
+}
+
 /// The member whose body of form one the bytes are.
 #[tactic(auto, unfolding(crate::specs::Reading::read_body))]
 fn body_of(alloc: Global, shapes: &Shapes, bytes: &[u8]) -> Result<Member, Unread>
     ensures { Gives (λ member. member) result (read_body shapes.now bytes.now) }
 {
     let (member, rest) = member_at(alloc, shapes, bytes)?;
-    if rest.is_empty() {
-        Ok(member)
-    } else {
-        Err(Unread::NoBody)
-    }
+    whole(member, rest)
 }
 
 /// The members whose body of form two the bytes are.
@@ -181,15 +188,12 @@ fn group_of(alloc: Global, shapes: &Shapes, bytes: &[u8]) -> Result<Members, Unr
     ensures { Gives (λ members. members) result (read_group shapes.now bytes.now) }
 {
     let (count, rest) = u16_at(bytes)?;
+    let count = count as usize;
     if count < 1 || count > MAX_MEMBERS {
         return Err(Unread::NoBody);
     }
     let (members, rest) = members_at(alloc, count, shapes, rest)?;
-    if rest.is_empty() {
-        Ok(members)
-    } else {
-        Err(Unread::NoBody)
-    }
+    whole(members, rest)
 }
 
 /// The member, a transition and its row, whose body of form one the bytes are for these shapes, and `None` exactly where

@@ -20,7 +20,7 @@ pub const TEXT_TAG: u8 = 2;
 pub const ID_TAG: u8 = 3;
 
 /// The greatest number of members of a group.
-pub const MAX_MEMBERS: u16 = 4096;
+pub const MAX_MEMBERS: usize = 4096;
 
 /// Appends the bytes of the value.
 #[tactic(auto, using(crate::proofs::Texts::text_is_short), unfolding(crate::specs::Bodies::value_bytes))]

@@ -8,8 +8,11 @@ mod member;
 mod unread;
 
 pub use decoding::{decode, decode_group};
-pub use encoding::{encode, encode_group};
+pub use encoding::{MAX_MEMBERS, encode, encode_group};
 pub use laws::{
     bodies_are_read_again, other_members_have_other_bodies, what_is_read_has_that_body,
 };
 pub use member::{Member, Members};
+
+#[cfg(test)]
+mod tests;
