@@ -31,11 +31,10 @@ written at bytes held = let wide = padded (at + length bytes) held in take at wi
 abbrev pub ReadsFrom : ℕ → ℕ → List ℕ → List ℕ → Type 0
 ReadsFrom at count into held = take count into ≡ take (length into) (drop at held)
 
--- every call: what is told stays told, what is honest stays honest, and the count of faults never falls
+-- every call: what is told stays told, and what is honest stays honest
 pub record Keeps (old new : DiskState) : Type 0 where
   pub told : SameTold old.content new.content
   pub honest : new.honest ≡ old.honest
-  pub faults : old.faults ≤ new.faults
 
 -- a write of n bytes that a crash cuts short: any bytes in the range and past the old end, the same elsewhere
 pub record Torn (at n : ℕ) (old new : List ℕ) : Type 0 where

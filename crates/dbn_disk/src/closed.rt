@@ -5,13 +5,13 @@ ghost use Rattle.dbn_io.specs.declared.trouble.Trouble.{Trouble};
 ghost use Rattle.dbn_model.specs.Causes.{Rose};
 
 use crate::device::Disk;
-use dbn_io::Trouble;
+use dbn_io::{Faults, Trouble};
 use std::marker::Model;
 
 /// A disk whose every call answers `Failed` and raises its count of faults. It tells nothing and isn't honest.
 #[derive(Drop)]
 pub struct ClosedDisk {
-    faults: u64,
+    faults: Faults,
 }
 
 impl Model for ClosedDisk {
@@ -25,17 +25,9 @@ impl ClosedDisk {
     pub fn new() -> ClosedDisk
         ensures { result ≡ 0 }
     {
-        ClosedDisk { faults: 0 }
-    }
-
-    /// Raises the count of faults, up to the last value of a u64.
-    fn fail(&mut self) -> Trouble
-        ensures answer { result ≡ Trouble.Failed }
-        ensures later { self.old ≤ self.new }
-        ensures rose { Rose self.old self.new }
-    {
-        self.faults = self.faults.saturating_add(1);
-        Trouble::Failed
+        ClosedDisk {
+            faults: Faults::new(),
+        }
     }
 }
 
@@ -51,7 +43,7 @@ impl Disk for ClosedDisk {
         ensures later { self.old ≤ self.new }
         ensures rose { Rose self.old self.new }
     {
-        Err(self.fail())
+        Err(self.faults.fail())
     }
 
     fn read(&mut self, at: u64, into: &mut [u8]) -> Result<usize, Trouble>
@@ -59,7 +51,7 @@ impl Disk for ClosedDisk {
         ensures later { self.old ≤ self.new }
         ensures rose { Rose self.old self.new }
     {
-        Err(self.fail())
+        Err(self.faults.fail())
     }
 
     fn write_at(&mut self, at: u64, bytes: &[u8]) -> Result<(), Trouble>
@@ -67,7 +59,7 @@ impl Disk for ClosedDisk {
         ensures later { self.old ≤ self.new }
         ensures rose { Rose self.old self.new }
     {
-        Err(self.fail())
+        Err(self.faults.fail())
     }
 
     fn cut(&mut self, to: u64) -> Result<(), Trouble>
@@ -75,7 +67,7 @@ impl Disk for ClosedDisk {
         ensures later { self.old ≤ self.new }
         ensures rose { Rose self.old self.new }
     {
-        Err(self.fail())
+        Err(self.faults.fail())
     }
 
     fn sync(&mut self) -> Result<(), Trouble>
@@ -83,6 +75,6 @@ impl Disk for ClosedDisk {
         ensures later { self.old ≤ self.new }
         ensures rose { Rose self.old self.new }
     {
-        Err(self.fail())
+        Err(self.faults.fail())
     }
 }

@@ -3,8 +3,8 @@
 ghost use Rattle.std.specs.Prelude.{◌≡◌, ◌⊎◌, ◌+◌, ◌^◌, ◌≤◌, List, ℕ, Some, length, take, IfOk, OnOk, IsErrOf, IsTrue};
 ghost use Rattle.std.specs.Option.{option_map};
 ghost use Rattle.std.specs.Io.{ReadsAtMost};
+ghost use Rattle.dbn_io.specs.Causes.{HasCause};
 ghost use Rattle.dbn_io.specs.declared.trouble.Trouble.{Trouble};
-ghost use Rattle.dbn_model.specs.Causes.{Rose};
 ghost use Rattle.dbn_disk.specs.Disk.{DiskState, ReadsFrom, written, Keeps, Torn, Cut, Follows, Only, Still, Elapses, IsSound};
 
 use dbn_io::Trouble;
@@ -21,7 +21,7 @@ pub trait Disk {
         ensures same { (state self.new).content ≡ (state self.old).content }
         ensures still { IsTrue (state self.old).honest → Still (state self.old) (state self.new) }
         ensures keeps { Keeps (state self.old) (state self.new) }
-        ensures failed { IsErrOf result Trouble.Failed → Rose (state self.old).faults (state self.new).faults };
+        ensures cause { HasCause (state self.old).faults (state self.new).faults result };
 
     /// Reads into the front of `into` the bytes from `at` on, as many as there are, at most the buffer, and answers how
     /// many. `Failed` comes only where the count of faults rose; nothing changes but that count.
@@ -31,7 +31,7 @@ pub trait Disk {
         ensures same { (state self.new).content ≡ (state self.old).content }
         ensures still { IsTrue (state self.old).honest → Still (state self.old) (state self.new) }
         ensures keeps { Keeps (state self.old) (state self.new) }
-        ensures failed { IsErrOf result Trouble.Failed → Rose (state self.old).faults (state self.new).faults };
+        ensures cause { HasCause (state self.old).faults (state self.new).faults result };
 
     /// Writes over what is held from `at` on, and past the end, where zeros fill a gap. Until a `sync` a crash may leave
     /// any bytes in the range. `Failed` comes only where the count of faults rose, and leaves it open whether the bytes
@@ -44,7 +44,7 @@ pub trait Disk {
         ensures crash { IsTrue (state self.old).honest → Follows (Torn at (length bytes.now)) (state self.old).image (state self.new).image }
         ensures time { IsTrue (state self.old).honest → Elapses (state self.old) (state self.new) }
         ensures keeps { Keeps (state self.old) (state self.new) }
-        ensures failed { IsErrOf result Trouble.Failed → Rose (state self.old).faults (state self.new).faults };
+        ensures cause { HasCause (state self.old).faults (state self.new).faults result };
 
     /// Drops what is held from `to` on; at or past the end nothing changes. Until a `sync` a crash may leave any length
     /// between. `Failed` comes only where the count of faults rose, and leaves it open whether the bytes are held. After
@@ -56,7 +56,7 @@ pub trait Disk {
         ensures crash { IsTrue (state self.old).honest → Follows (Cut to) (state self.old).image (state self.new).image }
         ensures time { IsTrue (state self.old).honest → Elapses (state self.old) (state self.new) }
         ensures keeps { Keeps (state self.old) (state self.new) }
-        ensures failed { IsErrOf result Trouble.Failed → Rose (state self.old).faults (state self.new).faults };
+        ensures cause { HasCause (state self.old).faults (state self.new).faults result };
 
     /// After `Ok` a crash leaves the bytes held. `Failed` comes only where the count of faults rose; no other error
     /// comes. The bytes held are as before, with every answer.
@@ -66,7 +66,7 @@ pub trait Disk {
         ensures crash { IsTrue (state self.old).honest → (c : List ℕ) → (state self.new).image c → (state self.old).image c }
         ensures time { IsTrue (state self.old).honest → Elapses (state self.old) (state self.new) }
         ensures keeps { Keeps (state self.old) (state self.new) }
-        ensures failed { IsErrOf result Trouble.Failed → Rose (state self.old).faults (state self.new).faults }
+        ensures cause { HasCause (state self.old).faults (state self.new).faults result }
         ensures undone { IsErrOf result Trouble.Failed → IsTrue (state self.old).honest → Still (state self.old) (state self.new) }
         ensures memory { IsErrOf result Trouble.Memory → ⊥ };
 

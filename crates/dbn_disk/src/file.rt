@@ -1,28 +1,30 @@
 //! A file as a disk.
 
-ghost use Rattle.std.specs.Prelude.{◌≡◌, ℕ, ◌≤◌};
+ghost use Rattle.std.specs.Prelude.{◌≡◌, ℕ};
 ghost use Rattle.std.specs.Io.{ReadsAtMost};
-ghost use Rattle.dbn_io.specs.declared.trouble.Trouble.{Trouble};
-ghost use Rattle.dbn_model.specs.Causes.{Rose};
 
 use crate::device::Disk;
-use dbn_io::Trouble;
-use std::fs::{self, File, OpenOptions};
+use crate::opened::{self, Opened};
+use dbn_io::{Faults, Trouble};
+use std::fs::{self, File};
 use std::io::{self, ErrorKind};
 use std::marker::Model;
-use std::os::unix::fs::FileExt;
 use std::rt::Files;
 
-/// A named file as a disk. It is opened at the first use and made at the first write; a missing file has length 0. It
-/// tells no bytes, isn't said to be honest, and counts each error as a fault: all that it means is that count. No contract
-/// can say what a file holds, so any answer meets these, and what the calls do is tested.
+/// A named file as a disk. It is looked for at the first use; a missing one has length 0, and is made at the first write.
+/// While it is open this disk has an exclusive lock on it, so a second disk over the same file, here or in another
+/// process, has only faults; so has a write where the file came into being after this disk had found none. A file that
+/// may only be read is opened for reading, with a lock that readers share.
+///
+/// It tells no bytes, isn't said to be honest, and counts each error as a fault: all that it means is that count. No
+/// contract can say what a file holds, so any answer meets these, and what the calls do is tested.
 #[derive(Drop)]
 pub struct FileDisk<'a, R: Files<File = File>> {
     rt: &'a R,
     name: &'a str,
-    file: Option<File>,
+    opened: Opened,
     folder_is_synced: bool,
-    faults: u64,
+    faults: Faults,
 }
 
 impl<'a, R: Files<File = File>> Model for FileDisk<'a, R> {
@@ -39,24 +41,28 @@ impl<'a, R: Files<File = File>> FileDisk<'a, R> {
         FileDisk {
             rt,
             name,
-            file: None,
+            opened: Opened::NotYet,
             folder_is_synced: false,
-            faults: 0,
+            faults: Faults::new(),
         }
     }
 
-    // Opens the file where it isn't open yet; a missing one is made where that is asked for, and stays closed otherwise.
-    fn open(&mut self, make: bool) -> io::Result<()>
+    // Looks for the file, where nobody has looked yet.
+    fn look(&mut self) -> io::Result<()>
         ensures { self.new ≡ self.old }
     {
-        if self.file.is_none() {
-            let mut how = OpenOptions::new();
-            how.read(true).write(true).create(make);
-            match how.open(self.rt, self.name) {
-                Ok(file) => self.file = Some(file),
-                Err(error) if error.kind() == ErrorKind::NotFound && !make => {}
-                Err(error) => return Err(error),
-            }
+        if let Opened::NotYet = self.opened {
+            self.opened = opened::find(self.rt, self.name)?;
+        }
+        Ok(())
+    }
+
+    // Makes the file, where there was none.
+    fn make(&mut self) -> io::Result<()>
+        ensures { self.new ≡ self.old }
+    {
+        if let Opened::Missing = self.opened {
+            self.opened = opened::make(self.rt, self.name)?;
         }
         Ok(())
     }
@@ -64,73 +70,60 @@ impl<'a, R: Files<File = File>> FileDisk<'a, R> {
     fn file_len(&mut self) -> io::Result<u64>
         ensures { self.new ≡ self.old }
     {
-        self.open(false)?;
-        match &self.file {
+        self.look()?;
+        match self.opened.file() {
             Some(file) => Ok(file.metadata()?.len()),
             None => Ok(0),
         }
     }
 
-    // As many bytes as there are, at most the buffer.
     fn read_bytes(&mut self, at: u64, into: &mut [u8]) -> io::Result<usize>
         ensures bound { ReadsAtMost result into.new }
         ensures faults { self.new ≡ self.old }
     {
-        let left = self.file_len()?.saturating_sub(at);
-        let count = into.len().min(left as usize);
-        if count > 0
-            && let Some(file) = &self.file
-        {
-            file.read_exact_at(&mut into[..count], at)?;
+        self.look()?;
+        match self.opened.file() {
+            Some(file) => opened::read_up_to_end(file, at, into),
+            None => Ok(0),
         }
-        Ok(count)
     }
 
     fn write_bytes(&mut self, at: u64, bytes: &[u8]) -> io::Result<()>
         ensures { self.new ≡ self.old }
     {
-        self.open(true)?;
-        if let Some(file) = &self.file {
-            file.write_all_at(bytes, at)?;
+        self.look()?;
+        self.make()?;
+        match self.opened.file() {
+            Some(file) => opened::write(file, at, bytes),
+            None => Err(io::Error::from(ErrorKind::NotFound)),
         }
-        Ok(())
     }
 
     fn cut_bytes(&mut self, to: u64) -> io::Result<()>
         ensures { self.new ≡ self.old }
     {
-        let len = self.file_len()?;
-        if to < len
-            && let Some(file) = &self.file
-        {
-            file.set_len(to)?;
+        self.look()?;
+        match self.opened.file() {
+            Some(file) => opened::cut(file, to),
+            None => Ok(()),
         }
-        Ok(())
     }
 
-    // The file, and the folder too at the first time, since the file may have been made.
+    // The file, and at the first time its folder too: this disk may have made the file, or a run before that ended early.
     fn sync_all(&mut self) -> io::Result<()>
         ensures { self.new ≡ self.old }
     {
-        self.open(false)?;
-        if let Some(file) = &self.file {
-            file.sync_all()?;
-            if !self.folder_is_synced {
-                fs::open(self.rt, folder_of(self.name))?.sync_all()?;
-                self.folder_is_synced = true;
-            }
+        self.look()?;
+        if let Some(file) = self.opened.file() {
+            file.sync_data()?;
+        }
+        if let Opened::Writable(_) = self.opened
+            && !self.folder_is_synced
+        {
+            fs::open(self.rt, folder_of(self.name))?.sync_all()?;
+            self.folder_is_synced = true;
         }
         Ok(())
-    }
-
-    // Raises the count of faults, up to the last value of a u64.
-    fn fail(&mut self) -> Trouble
-        ensures answer { result ≡ Trouble.Failed }
-        ensures later { self.old ≤ self.new }
-        ensures rose { Rose self.old self.new }
-    {
-        self.faults = self.faults.saturating_add(1);
-        Trouble::Failed
     }
 }
 
@@ -153,35 +146,35 @@ impl<R: Files<File = File>> Disk for FileDisk<'_, R> {
     fn len(&mut self) -> Result<u64, Trouble> {
         match self.file_len() {
             Ok(len) => Ok(len),
-            Err(_) => Err(self.fail()),
+            Err(_) => Err(self.faults.fail()),
         }
     }
 
     fn read(&mut self, at: u64, into: &mut [u8]) -> Result<usize, Trouble> {
         match self.read_bytes(at, into) {
             Ok(count) => Ok(count),
-            Err(_) => Err(self.fail()),
+            Err(_) => Err(self.faults.fail()),
         }
     }
 
     fn write_at(&mut self, at: u64, bytes: &[u8]) -> Result<(), Trouble> {
         match self.write_bytes(at, bytes) {
             Ok(()) => Ok(()),
-            Err(_) => Err(self.fail()),
+            Err(_) => Err(self.faults.fail()),
         }
     }
 
     fn cut(&mut self, to: u64) -> Result<(), Trouble> {
         match self.cut_bytes(to) {
             Ok(()) => Ok(()),
-            Err(_) => Err(self.fail()),
+            Err(_) => Err(self.faults.fail()),
         }
     }
 
     fn sync(&mut self) -> Result<(), Trouble> {
         match self.sync_all() {
             Ok(()) => Ok(()),
-            Err(_) => Err(self.fail()),
+            Err(_) => Err(self.faults.fail()),
         }
     }
 }

@@ -7,6 +7,7 @@ mod file;
 mod held;
 mod log;
 mod memory;
+mod opened;
 mod past;
 
 pub use closed::ClosedDisk;

@@ -3,9 +3,9 @@
 ghost use Rattle.std.specs.Prelude.{◌≡◌, ℕ, List, [], ◌∷◌, ◌++◌, ◌+◌, ◌^◌, ◌≤◌, cond, not, length, take, Some, IfOk, OnOk, IsErrOf, IsTrue, vec_len, vec_capacity};
 ghost use Rattle.std.specs.Io.{ReadsAtMost};
 ghost use Rattle.std.specs.Option.{option_map};
+ghost use Rattle.dbn_io.specs.Causes.{HasCause};
 ghost use Rattle.dbn_io.specs.Memory.{fails_next};
 ghost use Rattle.dbn_io.specs.declared.trouble.Trouble.{Trouble};
-ghost use Rattle.dbn_model.specs.Causes.{Rose};
 ghost use Rattle.dbn_disk.specs.Disk.{ReadsFrom, written, Keeps, Torn, Cut, Follows, Only, Still, Elapses};
 ghost use Rattle.dbn_disk.specs.MemCalls.{Counted};
 ghost use Rattle.dbn_disk.specs.MemState.{MemState, IsMemDisk, fresh, disk_state, then_sync};
@@ -93,7 +93,7 @@ impl Disk for MemDisk {
         ensures same { (disk_state self.new).content ≡ (disk_state self.old).content }
         ensures still { IsTrue (disk_state self.old).honest → Still (disk_state self.old) (disk_state self.new) }
         ensures keeps { Keeps (disk_state self.old) (disk_state self.new) }
-        ensures failed { IsErrOf result Trouble.Failed → Rose (disk_state self.old).faults (disk_state self.new).faults }
+        ensures cause { HasCause (disk_state self.old).faults (disk_state self.new).faults result }
         ensures counted { Counted self.old self.new self.old.calls result }
         ensures memory { IsErrOf result Trouble.Memory → ⊥ }
     {
@@ -107,7 +107,7 @@ impl Disk for MemDisk {
         ensures same { (disk_state self.new).content ≡ (disk_state self.old).content }
         ensures still { IsTrue (disk_state self.old).honest → Still (disk_state self.old) (disk_state self.new) }
         ensures keeps { Keeps (disk_state self.old) (disk_state self.new) }
-        ensures failed { IsErrOf result Trouble.Failed → Rose (disk_state self.old).faults (disk_state self.new).faults }
+        ensures cause { HasCause (disk_state self.old).faults (disk_state self.new).faults result }
         ensures counted { Counted self.old self.new self.old.calls result }
         ensures memory { IsErrOf result Trouble.Memory → ⊥ }
     {
@@ -126,7 +126,7 @@ impl Disk for MemDisk {
         ensures crash { IsTrue (disk_state self.old).honest → Follows (Torn at (length bytes.now)) (disk_state self.old).image (disk_state self.new).image }
         ensures time { IsTrue (disk_state self.old).honest → Elapses (disk_state self.old) (disk_state self.new) }
         ensures keeps { Keeps (disk_state self.old) (disk_state self.new) }
-        ensures failed { IsErrOf result Trouble.Failed → Rose (disk_state self.old).faults (disk_state self.new).faults }
+        ensures cause { HasCause (disk_state self.old).faults (disk_state self.new).faults result }
         ensures counted { (IsErrOf result Trouble.Memory → ⊥) → Counted self.old self.new (self.old.calls ++ Call.Write at bytes.now (not (fails_next self.old.plan)) ∷ []) result }
         ensures untouched { IsErrOf result Trouble.Memory → IsTrue (disk_state self.old).honest → Still (disk_state self.old) (disk_state self.new) }
         ensures unchanged { IsErrOf result Trouble.Memory → self.new ≡ self.old }
@@ -158,7 +158,7 @@ impl Disk for MemDisk {
         ensures crash { IsTrue (disk_state self.old).honest → Follows (Cut to) (disk_state self.old).image (disk_state self.new).image }
         ensures time { IsTrue (disk_state self.old).honest → Elapses (disk_state self.old) (disk_state self.new) }
         ensures keeps { Keeps (disk_state self.old) (disk_state self.new) }
-        ensures failed { IsErrOf result Trouble.Failed → Rose (disk_state self.old).faults (disk_state self.new).faults }
+        ensures cause { HasCause (disk_state self.old).faults (disk_state self.new).faults result }
         ensures counted { (IsErrOf result Trouble.Memory → ⊥) → Counted self.old self.new (self.old.calls ++ Call.Cut to (not (fails_next self.old.plan)) ∷ []) result }
         ensures untouched { IsErrOf result Trouble.Memory → IsTrue (disk_state self.old).honest → Still (disk_state self.old) (disk_state self.new) }
         ensures unchanged { IsErrOf result Trouble.Memory → self.new ≡ self.old }
@@ -179,7 +179,7 @@ impl Disk for MemDisk {
         ensures crash { IsTrue (disk_state self.old).honest → (c : List ℕ) → (disk_state self.new).image c → (disk_state self.old).image c }
         ensures time { IsTrue (disk_state self.old).honest → Elapses (disk_state self.old) (disk_state self.new) }
         ensures keeps { Keeps (disk_state self.old) (disk_state self.new) }
-        ensures failed { IsErrOf result Trouble.Failed → Rose (disk_state self.old).faults (disk_state self.new).faults }
+        ensures cause { HasCause (disk_state self.old).faults (disk_state self.new).faults result }
         ensures undone { IsErrOf result Trouble.Failed → IsTrue (disk_state self.old).honest → Still (disk_state self.old) (disk_state self.new) }
         ensures memory { IsErrOf result Trouble.Memory → ⊥ }
         ensures counted { Counted self.old self.new (cond (fails_next self.old.plan) self.old.calls (then_sync self.old.calls)) result }

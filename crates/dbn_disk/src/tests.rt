@@ -88,11 +88,30 @@ fn a_file_is_a_disk(rt: HostRuntime) -> Result<(), Fail> {
     assert_eq!(rt; disk.sync(), Ok(()));
     assert!(rt; holds(&mut disk, b"\0\0abc"));
     assert_eq!(rt; disk.cut(3), Ok(()));
+    assert_eq!(rt; disk.write_at(5, b""), Ok(()));
+    assert_eq!(rt; disk.write_at(1, b""), Ok(()));
     assert_eq!(rt; disk.sync(), Ok(()));
-    assert!(rt; holds(&mut FileDisk::new(&rt, "disk.bin"), b"\0\0a"));
+    drop(disk);
+    assert!(rt; holds(&mut FileDisk::new(&rt, "disk.bin"), b"\0\0a\0\0"));
     assert_eq!(rt;
         FileDisk::new(&rt, "no_folder/disk.bin").write_at(0, b"a"),
         Err(Trouble::Failed)
     );
+    Ok(())
+}
+
+// Three disks over one file: the first makes it, the second comes later, the third had found none.
+#[test]
+fn one_disk_at_a_time_has_a_file(rt: HostRuntime) -> Result<(), Fail> {
+    let mut first = FileDisk::new(&rt, "shared.bin");
+    let mut second = FileDisk::new(&rt, "shared.bin");
+    let mut third = FileDisk::new(&rt, "shared.bin");
+    assert!(rt; holds(&mut third, b""));
+    assert_eq!(rt; first.write_at(0, b"abc"), Ok(()));
+    assert!(rt; fails_in_each(&mut second));
+    assert_eq!(rt; third.write_at(0, b"x"), Err(Trouble::Failed));
+    drop(first);
+    assert_eq!(rt; third.write_at(0, b"x"), Err(Trouble::Failed));
+    assert!(rt; holds(&mut second, b"abc"));
     Ok(())
 }

@@ -1,13 +1,13 @@
 -- What a crash leaves while a file is made.
-use Rattle.std.proofs.Common.{◌≡◌, ℕ, suc, ◌+◌, ◌-◌, ◌<◌, true, false, ◌==◌, List, [], ◌∷◌, ◌++◌, length, take, drop, Option, None, Some, inr, refl, sym, ap, subst, ◌∙◌, arith, length-drop, append-nil, eq-eqb}
+use Rattle.std.proofs.Common.{nat_le, get_or, inl, ◌≡◌, ℕ, suc, ◌+◌, ◌-◌, ◌<◌, true, false, ◌==◌, List, [], ◌∷◌, ◌++◌, length, take, drop, Option, None, Some, inr, refl, sym, ap, subst, ◌∙◌, arith, length-drop, append-nil, eq-eqb}
 use Rattle.std.specs.Option.{option_map}
 use Rattle.std.proofs.lemmas.List.{ext_get_or, get_or-drop, length-take, take_at, drop_all}
-use Rattle.std.proofs.lemmas.Bool.{true≢false, false≢true, not-true, cond-true, cond-false}
+use Rattle.std.proofs.lemmas.Bool.{and_left, and_right, lt-leb, eqb-true, not-false, true≢false, false≢true, not-true, cond-true, cond-false}
 use Rattle.dbn_disk.specs.Disk.{DiskState, Torn, Cut, Follows, Only, Still, Elapses, LeavesOnly, IsSound, written, padded, zeros}
 use Rattle.dbn_disk.specs.SoundLaws.{length-padded}
 use Rattle.dbn_disk.proofs.Going.{started, called, leaves_on, leaves_more, after_still}
 use Rattle.dbn_journal.specs.Records.{open_gate, IsShutAt}
-use Rattle.dbn_journal.specs.Making.{has_shut_first, closed, filled, opened, IsClosing, IsOpening}
+use Rattle.dbn_journal.specs.Making.{has_shut_first, closed, filled, opened, IsClosing, IsOpening, is_open, IsSameOrNotOpen}
 use Rattle.dbn_journal.proofs.Appends.{shut_stays}
 
 -- a torn write of the first byte leaves the others
@@ -81,3 +81,20 @@ module _ (old mid new : DiskState) where
       leaves_more old new (IsOpening b) (λ c. ((d : List ℕ) × old.image d × Torn 0 1 d c)) work (λ c torn.
       let from : Torn 0 1 b c = subst (λ (d : List ℕ). Torn 0 1 d c) (only torn.0 torn.1) torn.2 in
       record { some = omega (arith, from.no_shorter, shut.there); rest = torn_rest b c from })
+
+-- a torn write of the first byte of a file that is empty or open leaves it or one that isn't open
+torn_open : (b c : List ℕ) → has_shut_first b ≡ false → Torn 0 1 b c → IsSameOrNotOpen b c
+torn_open [] c other torn = inr (and_left (nat_le 2 (length c)) (get_or c 0 0 == open_gate) (lt-leb 2 (length c) (omega (arith, torn.no_longer))))
+torn_open (first ∷ rest) [] other torn = absurd (omega (arith, torn.no_shorter))
+torn_open (first ∷ rest) (z ∷ more) other torn = elim (z == open_gate) as (λ t. z == open_gate ≡ t → IsSameOrNotOpen (first ∷ rest) (z ∷ more)) [
+  | true ↦ λ e. inl (
+      ap (λ (k : ℕ). k ∷ more) (eqb-true z open_gate e ∙ sym (eqb-true first open_gate (not-false (first == open_gate) other)))
+      ∙ ap (λ (l : List ℕ). first ∷ l) (torn_rest (first ∷ rest) (z ∷ more) torn)
+      )
+  | false ↦ λ e. inr (and_right (nat_le 2 (length (z ∷ more))) (z == open_gate) e)
+] refl
+
+pub closing_settled : (old mid new : DiskState) (b : List ℕ) → Still old mid → LeavesOnly mid new (λ c. ((d : List ℕ) × mid.image d × Torn 0 1 d c)) → Only b old.image → has_shut_first b ≡ false → LeavesOnly old new (IsSameOrNotOpen b)
+closing_settled old mid new b still work only other =
+    after_still old mid new (IsSameOrNotOpen b) still
+    (leaves_more mid new (IsSameOrNotOpen b) (λ c. ((d : List ℕ) × mid.image d × Torn 0 1 d c)) work (λ c torn. torn_open b c other (subst (λ (d : List ℕ). Torn 0 1 d c) (only torn.0 (still.image torn.0 torn.1)) torn.2)))

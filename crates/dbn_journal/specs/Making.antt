@@ -1,5 +1,5 @@
 -- What the parts of making a file leave.
-use Rattle.std.specs.Prelude.{◌≡◌, ℕ, ◌<◌, Bool, false, cond, not, ◌==◌, List, [], ◌∷◌, ◌++◌, length, take, drop}
+use Rattle.std.specs.Prelude.{◌≡◌, ◌⊎◌, ◌&&◌, nat_le, get_or, ℕ, ◌<◌, Bool, false, cond, not, ◌==◌, List, [], ◌∷◌, ◌++◌, length, take, drop}
 use Rattle.dbn_journal.specs.Records.{open_gate}
 
 -- there is a first byte, and it is shut
@@ -29,3 +29,11 @@ pub record IsClosing (old : List ℕ → Type 0) (file : List ℕ) : Type 0 wher
 pub record IsOpening (bytes file : List ℕ) : Type 0 where
   pub some : 0 < length file
   pub rest : drop 1 file ≡ drop 1 bytes
+
+-- a file counts where it has two bytes at least, and its first byte is open
+abbrev pub is_open : List ℕ → Bool
+is_open file = nat_le 2 (length file) && (get_or file 0 0 == open_gate)
+
+-- these bytes still, or a file that doesn't count
+abbrev pub IsSameOrNotOpen : List ℕ → List ℕ → Type 0
+IsSameOrNotOpen bytes file = (file ≡ bytes) ⊎ (is_open file ≡ false)

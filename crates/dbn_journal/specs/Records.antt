@@ -60,30 +60,6 @@ records_within (suc most) place bytes = from_gate (gate_in bytes) place (λ size
 abbrev pub records_from : ℕ → List ℕ → RecordList
 records_from place file = records_within (length file) place (drop place file)
 
--- the file stands for these bodies, and a shut gate ends them
-abbrev pub StandsFor : ℕ → List (List ℕ) → List ℕ → Type 0
-StandsFor place bodies file = ((records_from place file).bodies ≡ bodies) × ((records_from place file).torn ≡ false)
-
--- a record as it is written: an open gate, the length in four bytes, the body
-abbrev pub record_of : List ℕ → List ℕ
-record_of body = open_gate ∷ (to_be_bytes w32 (length body) ++ body)
-
-abbrev pub blocks : List (List ℕ) → List ℕ
-blocks [] = []
-blocks (body ∷ bodies) = record_of body ++ blocks bodies
-
--- each length fits in four bytes
-abbrev pub AreSmall : List (List ℕ) → Type 0
-AreSmall [] = Unit {0}
-AreSmall (body ∷ bodies) = (length body < 2 ^ 32) × AreSmall bodies
-
--- a front, these records as they are written, and a shut gate
-pub record Stands (front : List ℕ) (bodies : List (List ℕ)) (file : List ℕ) : Type 0 where
-  pub gate : ℕ
-  pub rest : List ℕ
-  pub shut : gate ≢ open_gate
-  pub is : file ≡ front ++ (blocks bodies ++ gate ∷ rest)
-
 -- a byte stands at this place, and it is no open gate
 pub record IsShutAt (place : ℕ) (file : List ℕ) : Type 0 where
   pub there : place < length file
@@ -108,6 +84,14 @@ pub record IsBeforeOrAfter (old : List ℕ → Type 0) (place : ℕ) (body file 
   pub front : take place file ≡ take place from
   pub gate : IsShutAt place file ⊎ IsHeldAt place body file
 
--- each old image has this front and these records before the place: then a file is one with these bodies or with one more
-abbrev pub StandsBefore : (List ℕ → Type 0) → ℕ → List ℕ → List (List ℕ) → Type 0
-StandsBefore old place front bodies = (d : List ℕ) → old d → take place d ≡ front ++ blocks bodies
+-- each of these files has the bytes of this one up to the place
+abbrev pub AgreeUpTo : ℕ → List ℕ → (List ℕ → Type 0) → Type 0
+AgreeUpTo place bytes files = (d : List ℕ) → files d → take place d ≡ take place bytes
+
+-- the list with one more record at its end
+abbrev pub with_record : List ℕ → RecordList → RecordList
+with_record body list = record { bodies = list.bodies ++ body ∷ []; end = list.end + 5 + length body; torn = list.torn }
+
+-- the records of a file from this gate on are those of the list, or those and one more
+abbrev pub StandsForEither : ℕ → RecordList → List ℕ → List ℕ → Type 0
+StandsForEither place list body file = (records_from place file ≡ list) ⊎ (records_from place file ≡ with_record body list)

@@ -1,11 +1,11 @@
 //! Adding a record.
 
-ghost use Rattle.std.specs.Prelude.{◌≡◌, ◌⊎◌, ◌+◌, ◌^◌, ◌<◌, ◌≤◌, List, ℕ, Some, [], ◌∷◌, ◌++◌, length, IfOk, OnOk, IsErrOf, IsTrue};
+ghost use Rattle.std.specs.Prelude.{◌≡◌, ◌+◌, ◌^◌, ◌<◌, ◌≤◌, List, ℕ, Some, length, IfOk, OnOk, IsErrOf, IsTrue};
 ghost use Rattle.std.specs.Option.{option_map};
+ghost use Rattle.dbn_io.specs.Causes.{HasCause};
 ghost use Rattle.dbn_io.specs.declared.trouble.Trouble.{Trouble};
-ghost use Rattle.dbn_model.specs.Causes.{Rose};
 ghost use Rattle.dbn_disk.specs.Disk.{Only, Keeps, LeavesOnly};
-ghost use Rattle.dbn_journal.specs.Records.{behind, blocks, appended, IsShutAt, IsBeforeOrAfter, AreSmall, StandsBefore, StandsFor};
+ghost use Rattle.dbn_journal.specs.Records.{records_from, behind, appended, AgreeUpTo, IsShutAt, IsBeforeOrAfter, StandsForEither};
 
 use crate::gate::OPEN;
 use crate::through::write_through;
@@ -15,7 +15,10 @@ use std::alloc::Global;
 
 /// Adds a record with this body at the shut gate at `end`, and answers the place of the next gate. What stands behind the
 /// gate is stable before the gate is opened, so a crash at any moment leaves a file without the record or with it, and
-/// after `Ok` one with it. `Failed` comes only where the disk's count of faults rose.
+/// after `Ok` one with it. Where the records of the file from some gate on end at this one, a crash leaves those records,
+/// or those and the new one.
+///
+/// `Failed` comes only where the disk's count of faults rose; after `Memory` the file stands for the records of before.
 pub fn append<D: Disk>(alloc: Global, disk: &mut D, end: u64, body: &[u8]) -> Result<u64, Trouble>
     requires shut { (b : List ℕ) → (D.state disk.old).content ≡ Some b → IsTrue (D.state disk.old).honest → (c : List ℕ) → (D.state disk.old).image c → IsShutAt end c }
     requires size { length body.now < 2 ^ 32 }
@@ -24,26 +27,10 @@ pub fn append<D: Disk>(alloc: Global, disk: &mut D, end: u64, body: &[u8]) -> Re
     ensures value { OnOk result ((D.state disk.new).content ≡ option_map (appended end body.now) (D.state disk.old).content) }
     ensures durable { OnOk result ((b : List ℕ) → (D.state disk.old).content ≡ Some b → IsTrue (D.state disk.old).honest → Only (appended end body.now b) (D.state disk.new).image) }
     ensures any_moment { (b : List ℕ) → (D.state disk.old).content ≡ Some b → IsTrue (D.state disk.old).honest → LeavesOnly (D.state disk.old) (D.state disk.new) (IsBeforeOrAfter (D.state disk.old).image end body.now) }
-    ensures stands { (b : List ℕ) → (D.state disk.old).content ≡ Some b → IsTrue (D.state disk.old).honest → (front : List ℕ) (bodies : List (List ℕ)) → end ≡ length (front ++ blocks bodies) → AreSmall bodies → StandsBefore (D.state disk.old).image end front bodies
-        → (c : List ℕ) → (D.state disk.new).since (D.state disk.old).clock c → StandsFor (length front) bodies c ⊎ StandsFor (length front) (bodies ++ body.now ∷ []) c }
+    ensures stands { (b : List ℕ) → (D.state disk.old).content ≡ Some b → IsTrue (D.state disk.old).honest → AgreeUpTo end b (D.state disk.old).image
+        → (first : ℕ) → (records_from first b).end ≡ end → LeavesOnly (D.state disk.old) (D.state disk.new) (StandsForEither first (records_from first b) body.now) }
     ensures keeps { Keeps (D.state disk.old) (D.state disk.new) }
-    ensures failed { IsErrOf result Trouble.Failed → Rose (D.state disk.old).faults (D.state disk.new).faults }
-{
-    let next = add_record(alloc, disk, end, body)?;
-    Ok(next)
-}
-
-// The same, but for what the images stand for.
-fn add_record<D: Disk>(alloc: Global, disk: &mut D, end: u64, body: &[u8]) -> Result<u64, Trouble>
-    requires shut { (b : List ℕ) → (D.state disk.old).content ≡ Some b → IsTrue (D.state disk.old).honest → (c : List ℕ) → (D.state disk.old).image c → IsShutAt end c }
-    requires size { length body.now < 2 ^ 32 }
-    requires room { end + 6 + length body.now ≤ 2 ^ 62 }
-    ensures end { IfOk result (λ next. next ≡ end + 5 + length body.now) }
-    ensures value { OnOk result ((D.state disk.new).content ≡ option_map (appended end body.now) (D.state disk.old).content) }
-    ensures durable { OnOk result ((b : List ℕ) → (D.state disk.old).content ≡ Some b → IsTrue (D.state disk.old).honest → Only (appended end body.now b) (D.state disk.new).image) }
-    ensures any_moment { (b : List ℕ) → (D.state disk.old).content ≡ Some b → IsTrue (D.state disk.old).honest → LeavesOnly (D.state disk.old) (D.state disk.new) (IsBeforeOrAfter (D.state disk.old).image end body.now) }
-    ensures keeps { Keeps (D.state disk.old) (D.state disk.new) }
-    ensures failed { IsErrOf result Trouble.Failed → Rose (D.state disk.old).faults (D.state disk.new).faults }
+    ensures cause { HasCause (D.state disk.old).faults (D.state disk.new).faults result }
 {
     let rest = behind_gate(alloc, body)?;
     write_through(disk, end + 1, rest.as_slice())?;

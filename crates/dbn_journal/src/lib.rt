@@ -10,8 +10,9 @@ mod through;
 
 pub use add::append;
 pub use gate::Gate;
-pub use look::gate_at;
+pub use look::{gate_at, read_some};
 pub use make::{close_first, fill, open_first};
+pub use through::write_through;
 
 #[cfg(test)]
 mod tests;

@@ -163,17 +163,17 @@ fn the_gate_may_have_any_byte_inside_its_write(rt: HostRuntime) -> Result<(), Fa
 fn made(alloc: Global, old: &[u8]) -> Result<(MemDisk, Result<(), Trouble>), AllocError> {
     let mut disk = memory(alloc, old)?;
     let bytes = file(alloc, &[0])?;
-    let answer = make(&mut disk, &bytes.as_slice()[1..]);
+    let answer = make(alloc, &mut disk, &bytes.as_slice()[1..]);
     Ok((disk, answer))
 }
 
-fn make(disk: &mut MemDisk, rest: &[u8]) -> Result<(), Trouble>
+fn make(alloc: Global, disk: &mut MemDisk, rest: &[u8]) -> Result<(), Trouble>
     requires unused { disk.old ≡ fresh disk.old.first [] }
     requires room { length rest.now ≤ 99 }
 {
-    close_first(disk)?;
-    fill(disk, rest)?;
-    open_first(disk)?;
+    close_first(alloc, disk)?;
+    fill(alloc, disk, rest)?;
+    open_first(alloc, disk)?;
     Ok(())
 }
 

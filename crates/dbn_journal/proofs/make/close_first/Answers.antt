@@ -3,7 +3,7 @@ use Rattle.std.specs.Option.{option_map}
 use Rattle.dbn_disk.specs.Disk.{written}
 use Rattle.dbn_journal.specs.Making.{has_shut_first}
 use Rattle.dbn_journal.specs.Records.{IsShutAt}
-use Rattle.dbn_journal.proofs.Makes.{shut_first, shut_written, closing_work}
+use Rattle.dbn_journal.proofs.Makes.{shut_first, shut_written, closing_work, closing_settled}
 use Rattle.dbn_journal.proofs.make.close_first.Goals as goal
 
 pub returns-then-branch-clause-shut : goal.returns-then-branch-clause-shut
@@ -26,3 +26,13 @@ pub returns-clause-any_moment : goal.returns-clause-any_moment
 returns-clause-any_moment g c b told honest =
     closing_work (g.D.Disk.state c.args.disk.now) (g.D.Disk.state c.has_shut_first.new.disk) (g.D.Disk.state c.write_through.new.disk) (c.has_shut_first.ensures.still honest)
     (c.write_through.ensures.any_moment (subst IsTrue (sym c.has_shut_first.ensures.keeps.honest) honest))
+
+pub returns-in_err-write_through-clause-settled : goal.returns-in_err-write_through-clause-settled
+returns-in_err-write_through-clause-settled g c b told honest only =
+    closing_settled (g.D.Disk.state c.args.disk.now) (g.D.Disk.state c.has_shut_first.new.disk) (g.D.Disk.state c.write_through.new.disk) b (c.has_shut_first.ensures.still honest)
+    (c.write_through.ensures.any_moment (subst IsTrue (sym c.has_shut_first.ensures.keeps.honest) honest)) only (sym (c.in_ok-has_shut_first.ensures.first b told) ∙ c.if-branch.false)
+
+pub returns-clause-settled : goal.returns-clause-settled
+returns-clause-settled g c b told honest only =
+    closing_settled (g.D.Disk.state c.args.disk.now) (g.D.Disk.state c.has_shut_first.new.disk) (g.D.Disk.state c.write_through.new.disk) b (c.has_shut_first.ensures.still honest)
+    (c.write_through.ensures.any_moment (subst IsTrue (sym c.has_shut_first.ensures.keeps.honest) honest)) only (sym (c.in_ok-has_shut_first.ensures.first b told) ∙ c.if-branch.false)
