@@ -60,14 +60,3 @@ cells_decoded g back (v ∷ row) cs d e =
     ap (λ o. map back (unwrap_or o [])) parts.4
     ∙ ap (λ w. w ∷ map back parts.1) (d v parts.0 parts.2)
     ∙ ap (λ rest. v ∷ rest) (cells_decoded g back row parts.1 d parts.3)
-
-pub take_more : {A : Type 0} (xs : List A) (i : ℕ) (x : A) → i < length xs → x ≡ get_or xs i x → take (i + 1) xs ≡ take i xs ++ x ∷ []
-take_more xs i x l e = grind (arith, common_steps)
-
-pub whole : {A : Type 0} (xs : List A) (i : ℕ) (x : A) → i < length xs → x ≡ get_or xs i x → xs ≡ take i xs ++ x ∷ drop (i + 1) xs
-whole xs i x l e = grind (arith, common_steps)
-
-pub in_at : {A : Type 0} (xs : List A) (i : ℕ) (x : A) → i < length xs → x ≡ get_or xs i x → In x xs
-in_at [] i x l e = absurd (omega arith)
-in_at (y ∷ xs) zero x l e = inl e
-in_at (y ∷ xs) (suc i) x l e = inr (in_at xs i x (omega arith) e)

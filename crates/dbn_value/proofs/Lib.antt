@@ -1,7 +1,9 @@
+pub mod AppendLaws
 pub mod AscendingLaws
 pub mod CodingLaws
 pub mod CollectedLaws
 pub mod EntryLaws
+pub mod ListLaws
 pub mod MemberLaws
 pub mod Names
 pub mod Numbers

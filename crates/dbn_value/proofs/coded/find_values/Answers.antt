@@ -1,7 +1,8 @@
 -- One value more, or one that has no cell.
 use Rattle.std.proofs.Common.{◌+◌, ◌++◌, [], ◌∷◌, take, drop, Some, sym, ap, ◌∙◌, if◌then◌else◌, is_ok}
 use Rattle.dbn_value.specs.Coding.{cells_of}
-use Rattle.dbn_value.proofs.CodingLaws.{cells_append, cells_missing, take_more, whole}
+use Rattle.dbn_value.proofs.CodingLaws.{cells_append, cells_missing}
+use Rattle.dbn_value.proofs.ListLaws.{take_more, whole}
 use Rattle.dbn_value.proofs.coded.find_values.Goals as goal
 
 pub returns-in-None : goal.returns-in-None

@@ -2,7 +2,8 @@
 use Rattle.std.proofs.Common.{◌++◌, [], ◌∷◌, take, Some, sym, ap, subst, ◌∙◌, if◌then◌else◌, is_ok}
 use Rattle.dbn_value.specs.Coding.{cells_of}
 use Rattle.dbn_value.specs.Members.{In}
-use Rattle.dbn_value.proofs.CodingLaws.{cells_extend, cells_append, take_more, in_at}
+use Rattle.dbn_value.proofs.CodingLaws.{cells_extend, cells_append}
+use Rattle.dbn_value.proofs.ListLaws.{take_more, in_at}
 use Rattle.dbn_value.proofs.coded.put_values.Goals as goal
 
 pub loop-value-preserved : goal.loop-value-preserved
