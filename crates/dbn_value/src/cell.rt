@@ -1,18 +1,18 @@
-ghost use Rattle.std.specs.Prelude.{◌≡◌, ◌↔◌, ℤ, Option, Some, IsSome, IfOk};
+ghost use Rattle.std.specs.Prelude.{◌≡◌, ◌↔◌, ℤ, Option, Some, IsSome};
 ghost use Rattle.std.specs.Ordering.{int_cmp, eq_by_cmp};
 ghost use Rattle.std.specs.FinMap.{IsAntisymmetric};
 ghost use Rattle.dbn_value.specs.declared.value.ColType.{ColType as Column};
 ghost use Rattle.dbn_value.specs.declared.value.ColType.TheVariants as col;
 ghost use Rattle.dbn_value.specs.Order.{value_type, value_int, exact_values, ints_have_numbers, ints_by_number};
 
-use super::value::{ColType, IdNo, Txt, Value};
-use std::alloc::{AllocError, Global};
+use super::copying::CopyIn;
+use super::value::{ColType, Value};
 use std::cmp::Ordering;
 
 /// What stands in the rows of a table for a value: the value itself, or a short name of it.
 ///
 /// Cells are ordered by `Ord`, and cells that tie are equal.
-pub trait Cell: Sized + Ord + Drop {
+pub trait Cell: Sized + Ord + CopyIn + Drop {
     /// The type of the value that the cell stands for.
     ghost type_of: { Self → Column };
 
@@ -30,10 +30,6 @@ pub trait Cell: Sized + Ord + Drop {
     /// Whether the two are the same cell.
     fn same(&self, other: &Self) -> bool
         ensures { result ≡ eq_by_cmp Self.cmp self.now other.now };
-
-    /// A copy of the cell; an error is want of memory.
-    fn copy_in(&self, alloc: Global) -> Result<Self, AllocError>
-        ensures { IfOk result (λ c. c ≡ self.now) };
 
     /// Cells that tie are equal.
     ghost exact: { IsAntisymmetric Self.cmp };
@@ -64,14 +60,6 @@ impl Cell for Value {
 
     fn same(&self, other: &Value) -> bool {
         self.cmp(other).is_eq()
-    }
-
-    fn copy_in(&self, alloc: Global) -> Result<Value, AllocError> {
-        match self {
-            Value::Int(n) => Ok(Value::Int(*n)),
-            Value::Text(text) => Ok(Value::Text(text.copy_in(alloc)?)),
-            Value::Id(id) => Ok(Value::Id(*id)),
-        }
     }
 
     ghost exact = { exact_values };

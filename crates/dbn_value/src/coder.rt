@@ -4,6 +4,7 @@ ghost use Rattle.dbn_value.specs.Order.{value_type, value_int};
 ghost use Rattle.dbn_value.specs.Coding.{Extends, Decodes, IsCoding};
 
 use super::cell::Cell;
+use super::copying::CopyIn;
 use super::value::Value;
 use std::alloc::{AllocError, Global};
 

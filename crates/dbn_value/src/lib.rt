@@ -27,7 +27,7 @@ pub use member::Member;
 pub use name::Name;
 pub use order::compare;
 pub use reading::read_value;
-pub use row::{Row, has_shape, pick};
+pub use row::{Row, has_shape, join_rows, pick};
 pub use scope::{row_of, value_of};
 pub use spelling::{in_range, spell};
 pub use term::{Cmp, Term, Var};

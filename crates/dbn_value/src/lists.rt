@@ -1,5 +1,6 @@
 ghost use Rattle.std.specs.Prelude.{◌≡◌, ◌≤◌, length, IfOk, IsOk};
 
+use super::copying::CopyIn;
 use super::member::Member;
 use super::name::Name;
 use super::row::Row;
@@ -78,7 +79,7 @@ impl Bytes {
 }
 
 /// A list of numbers, as of columns; up to eight stand in the value itself.
-#[derive(Drop)]
+#[derive(Debug, Drop)]
 pub struct Nums {
     nums: SmallVec<usize, 8>,
 }
@@ -118,5 +119,18 @@ impl Nums {
         ensures { result.now ≡ self.now }
     {
         self.nums.as_slice()
+    }
+}
+
+impl CopyIn for Bytes {
+    fn copy_in(&self, alloc: Global) -> Result<Bytes, AllocError> {
+        let bytes = Vec::from_slice(alloc, self.bytes.as_slice())?;
+        Ok(Bytes { bytes })
+    }
+}
+
+impl CopyIn for Nums {
+    fn copy_in(&self, alloc: Global) -> Result<Nums, AllocError> {
+        Nums::from_slice(alloc, self.as_slice())
     }
 }

@@ -1,4 +1,4 @@
-ghost use Rattle.std.specs.Prelude.{◌≡◌, ◌↔◌, refl, IfOk, IsErrOf, IsFalse, IsTrue};
+ghost use Rattle.std.specs.Prelude.{◌≡◌, ◌↔◌, refl, IfOk, IsErr, IsErrOf, IsFalse, IsTrue};
 ghost use Rattle.std.specs.List.{list_all};
 ghost use Rattle.std.specs.Ordering.{as_partial_cmp};
 ghost use Rattle.std.specs.Cmp.{partial_equiv_from_equiv};
@@ -94,6 +94,7 @@ impl Name {
     pub fn from_bytes(alloc: Global, bytes: &[u8]) -> Result<Name, ValueFault>
         ensures ok { IfOk result (λ name. name ≡ bytes.now) }
         ensures spelling { IsErrOf result ValueFault.Spelling ↔ IsFalse (is_name bytes.now) }
+        ensures none { IsFalse (is_name bytes.now) → IsErr result }
     {
         if !is_name(bytes) {
             return Err(ValueFault::Spelling);

@@ -1,4 +1,4 @@
-ghost use Rattle.std.specs.Prelude.{◌≡◌, ◌++◌, ◌<◌, ◌^◌, false, Option, Some, None, IfOk, IfErr, IfSome, ◌+◌};
+ghost use Rattle.std.specs.Prelude.{◌≡◌, ◌++◌, ◌<◌, ◌^◌, false, Option, Some, None, IfOk, IfErr, IsErr, IfSome, ◌+◌};
 ghost use Rattle.std.specs.List.{list_all};
 ghost use Rattle.std.specs.Char.{is_ascii_digit};
 ghost use Rattle.std.specs.Option.{option_map, option_and_then};
@@ -138,6 +138,7 @@ fn spelled(alloc: Global, bytes: &[u8]) -> Result<Option<Value>, AllocError>
 pub fn read_value(alloc: Global, bytes: &[u8]) -> Result<Value, ValueFault>
     ensures ok { IfOk result (λ value. value_of_bytes bytes.now ≡ Some value) }
     ensures written { IfOk result (λ value. spelling value ≡ bytes.now) }
+    ensures none { value_of_bytes bytes.now ≡ None → IsErr result }
     ensures spelling { IfErr result (λ fault. fault ≡ ValueFault.Spelling → value_of_bytes bytes.now ≡ None) }
 {
     spelled(alloc, bytes)?.ok_or(ValueFault::Spelling)

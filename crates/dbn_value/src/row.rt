@@ -1,4 +1,5 @@
-ghost use Rattle.std.specs.Prelude.{◌≡◌, ◌↔◌, ◌<◌, refl, length, IfOk, IsTrue, All};
+ghost use Rattle.std.specs.Prelude.{◌≡◌, ◌==◌, ◌↔◌, ◌<◌, ◌++◌, refl, length, slice_get, IfOk, IsTrue, All};
+ghost use Rattle.std.specs.Option.{option_copied};
 ghost use Rattle.std.specs.Ordering.{eq_by_cmp, as_partial_cmp};
 ghost use Rattle.std.specs.Cmp.{partial_equiv_from_equiv, eq_by_cmp_equiv, partial_order_from_total};
 ghost use Rattle.std.specs.Cmp.Lexicographic.{slice_cmp, lists_total};
@@ -6,7 +7,7 @@ ghost use Rattle.dbn_value.specs.Picked.{picked};
 ghost use Rattle.dbn_value.specs.Shape.{HasShape};
 
 use super::cell::Cell;
-use super::copying::CopyIn;
+use super::copying::{CopyIn, copy_all, push_copies};
 use super::lists::Shape;
 use super::value::ColType;
 use std::alloc::{AllocError, Global};
@@ -43,6 +44,27 @@ impl<C> Row<C> {
         ensures { result.now ≡ self.now }
     {
         self.cells.as_slice()
+    }
+
+    /// The vector of the cells; this takes no memory.
+    pub fn into_vec(self) -> Vec<C>
+        ensures { result.items ≡ self }
+    {
+        self.cells
+    }
+
+    /// The cell at the column, and `None` exactly where the row has no such column.
+    pub fn get(&self, column: usize) -> Option<&C>
+        ensures { option_copied result ≡ slice_get self.now column }
+    {
+        self.cells.get(column)
+    }
+
+    /// Whether the row has no cells.
+    pub fn is_empty(&self) -> bool
+        ensures { result ≡ (length self.now == 0) }
+    {
+        self.cells.is_empty()
     }
 
     /// How many cells the row has.
@@ -93,20 +115,23 @@ impl<C: Ord> Ord for Row<C> {
 
 impl<C: Cell> CopyIn for Row<C> {
     fn copy_in(&self, alloc: Global) -> Result<Row<C>, AllocError> {
-        let cells = copy_cells(alloc, self.cells.as_slice())?;
+        let cells = copy_all(alloc, self.cells.as_slice())?;
         Ok(Row { cells })
     }
 }
 
-/// The cells again, in the same order; an error is want of memory.
-fn copy_cells<C: Cell>(alloc: Global, cells: &[C]) -> Result<Vec<C>, AllocError>
-    ensures { IfOk result (λ copies. copies.items ≡ cells.now) }
+/// A row of copies of the cells of the one, and behind them copies of those of the other; an error is want of memory.
+pub fn join_rows<C: Cell>(
+    alloc: Global,
+    left: &Row<C>,
+    right: &Row<C>,
+) -> Result<Row<C>, AllocError>
+    ensures { IfOk result (λ row. row ≡ left.now ++ right.now) }
 {
-    let mut copies = Vec::new(alloc);
-    for cell in cells {
-        copies.push(cell.copy_in(alloc)?)?;
-    }
-    Ok(copies)
+    let mut cells = Vec::with_capacity(alloc, left.len().saturating_add(right.len()))?;
+    push_copies(alloc, &mut cells, left.as_slice())?;
+    push_copies(alloc, &mut cells, right.as_slice())?;
+    Ok(Row { cells })
 }
 
 /// The cells of the row at these columns, in the order of the columns; an error is want of memory.
@@ -123,7 +148,7 @@ fn pick_cells<C: Cell>(alloc: Global, cells: &[C], columns: &[usize]) -> Result<
     requires { All (λ column. column < length cells.now) columns.now }
     ensures { IfOk result (λ chosen. chosen.items ≡ picked columns.now cells.now) }
 {
-    let mut chosen = Vec::new(alloc);
+    let mut chosen = Vec::with_capacity(alloc, columns.len())?;
     for column in columns {
         chosen.push(cells[*column].copy_in(alloc)?)?;
     }

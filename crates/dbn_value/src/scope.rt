@@ -2,7 +2,7 @@ ghost use Rattle.std.specs.Prelude.{◌≡◌, [], map, pos, unwrap_or, IfOk};
 ghost use Rattle.std.specs.Option.{option_copied};
 ghost use Rattle.dbn_value.specs.Scope.{bind, entry_of, known_value, value_of};
 
-use super::cell::Cell;
+use super::copying::CopyIn;
 use super::row::Row;
 use super::term::{Term, Var};
 use super::value::{ColType, Value};

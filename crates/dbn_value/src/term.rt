@@ -1,6 +1,5 @@
 ghost use Rattle.std.specs.Prelude.{◌≡◌, ◌↔◌, IsTrue};
 
-use super::cell::Cell;
 use super::copying::CopyIn;
 use super::name::Name;
 use super::value::{ColType, Value};
@@ -10,25 +9,35 @@ use std::cmp::Ordering;
 /// A variable: its name, and a mark that tells renamed variables apart (0 in the text of a net).
 #[derive(Debug, PartialEq, Eq, Drop)]
 pub struct Var {
+    /// The name, as it is written.
     pub name: Name,
+    /// 0, or what tells a renamed variable from all others of its name.
     pub mark: u64,
 }
 
 /// What stands at a column of an atom or at a side of a comparison.
 #[derive(Debug, Drop)]
 pub enum Term {
+    /// A variable.
     Var(Var),
+    /// A constant: it stands for itself.
     Const(Value),
 }
 
 /// The comparisons; ints take all six, texts and ids the first two.
 #[derive(Debug, Clone, Copy, PartialEq, Eq, Drop)]
 pub enum Cmp {
+    /// `=`
     Eq,
+    /// `!=`
     Ne,
+    /// `<`
     Lt,
+    /// `<=`
     Le,
+    /// `>`
     Gt,
+    /// `>=`
     Ge,
 }
 

@@ -1,19 +1,23 @@
-ghost use Rattle.std.specs.Prelude.{◌≡◌, ◌≤◌, ◌<◌, ◌^◌, MatchOption, IfOk, IsErrOf, Some, None, if◌then◌else◌, IsFalse, IsTrue, ◌↔◌};
+ghost use Rattle.std.specs.Prelude.{◌≡◌, ◌≤◌, ◌<◌, ◌^◌, MatchOption, IfOk, IsErr, IsErrOf, Some, None, if◌then◌else◌, IsFalse, IsTrue, ◌↔◌};
 ghost use Rattle.std.specs.List.{list_any};
 ghost use Rattle.std.specs.Char.{is_control};
 ghost use Rattle.std.specs.Str.{chars};
 ghost use Rattle.dbn_value.specs.Text.{is_text, IsText};
 ghost use Rattle.dbn_value.specs.Order.{type_eq};
 
-use std::alloc::{AllocError, Global};
+use super::copying::CopyIn;
+use std::alloc::{AllocError, AllocFailed, Global};
 use std::marker::Model;
 use std::str::from_utf8;
 
 /// The type of a column, a variable or a value.
 #[derive(Debug, Clone, Copy, PartialEq, Eq, Drop)]
 pub enum ColType {
+    /// Ints.
     Int,
+    /// Texts.
     Text,
+    /// Ids.
     Id,
 }
 
@@ -74,6 +78,7 @@ impl Txt {
     pub fn from_bytes(alloc: Global, bytes: &[u8]) -> Result<Txt, ValueFault>
         ensures ok { IfOk result (λ text. text ≡ bytes.now) }
         ensures spelling { IsErrOf result ValueFault.Spelling ↔ IsFalse (is_text bytes.now) }
+        ensures none { IsFalse (is_text bytes.now) → IsErr result }
     {
         if !is_text(bytes) {
             return Err(ValueFault::Spelling);
@@ -100,11 +105,10 @@ impl Txt {
     {
         self.bytes.as_slice()
     }
+}
 
-    /// A copy of the text; an error is want of memory.
-    pub fn copy_in(&self, alloc: Global) -> Result<Txt, AllocError>
-        ensures { IfOk result (λ t. t ≡ self.now) }
-    {
+impl CopyIn for Txt {
+    fn copy_in(&self, alloc: Global) -> Result<Txt, AllocError> {
         let bytes = Vec::from_slice(alloc, self.bytes.as_slice())?;
         Ok(Txt { bytes })
     }
@@ -155,9 +159,22 @@ impl IdNo {
 /// A value of a net: an int, a text or an id.
 #[derive(Debug, Drop)]
 pub enum Value {
+    /// An int, from -2^63 to 2^63 - 1.
     Int(i64),
+    /// A text.
     Text(Txt),
+    /// An id.
     Id(IdNo),
+}
+
+impl CopyIn for Value {
+    fn copy_in(&self, alloc: Global) -> Result<Value, AllocError> {
+        match self {
+            Value::Int(n) => Ok(Value::Int(*n)),
+            Value::Text(text) => Ok(Value::Text(text.copy_in(alloc)?)),
+            Value::Id(id) => Ok(Value::Id(*id)),
+        }
+    }
 }
 
 /// Why bytes give no value, no text or no name.
@@ -176,6 +193,17 @@ impl From<AllocError> for ValueFault {
     ghost from_gives = { λ _ f. f ≡ Memory };
 
     fn from(_error: AllocError) -> ValueFault {
+        ValueFault::Memory
+    }
+}
+
+impl<T: Drop> From<AllocFailed<T>> for ValueFault {
+    ghost use Rattle.dbn_value.specs.declared.value.ValueFault.{ValueFault as Fault};
+    ghost use Rattle.dbn_value.specs.declared.value.ValueFault.TheVariants.{Memory};
+
+    ghost from_gives = { λ _ f. f ≡ Memory };
+
+    fn from(_error: AllocFailed<T>) -> ValueFault {
         ValueFault::Memory
     }
 }
