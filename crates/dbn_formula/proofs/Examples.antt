@@ -1,5 +1,5 @@
 -- The definitions, computed on small formulas.
-use Rattle.std.proofs.Common.{◌≡◌, ℕ, true, false, [], ◌∷◌, refl, ap, ◌∙◌, Some, None}
+use Rattle.std.proofs.Common.{◌≡◌, ℕ, true, false, [], ◌∷◌, refl, sym, ap, ◌∙◌, subst, inl, ⊎_elim, Some, None}
 use Rattle.std.specs.Prelude.{pos}
 use Rattle.dbn_value.specs.declared.value.Value.{Value}
 use Rattle.dbn_value.specs.declared.value.Value.TheVariants.{Int, Text, Id}
@@ -11,13 +11,18 @@ use Rattle.dbn_formula.specs.declared.formula.Formula.{Formula}
 use Rattle.dbn_formula.specs.declared.formula.Formula.TheVariants.{Atom, Test, And, Or, Not, Implies, Exists, Forall}
 use Rattle.dbn_formula.specs.declared.typing.TypeFault.TheVariants.{Arity, TypeClash, Unbound}
 use Rattle.dbn_formula.specs.Variables.{TypedVars}
-use Rattle.dbn_formula.specs.Answers.{answers}
+use Rattle.dbn_value.specs.Members.{In}
+use Rattle.dbn_formula.specs.Holds.{Instance}
+use Rattle.dbn_formula.specs.Answers.{domain, answers}
 use Rattle.dbn_formula.specs.Normal.{normal}
-use Rattle.dbn_formula.specs.Free.{free}
+use Rattle.dbn_formula.specs.Free.{occurrences, free}
 use Rattle.dbn_formula.specs.Size.{size}
 use Rattle.dbn_formula.specs.Typing.{Shapes, type_fault}
 use Rattle.dbn_formula.specs.Apart.{renamed}
-use Rattle.dbn_formula.specs.Safe.{safe, sentence_safe}
+use Rattle.dbn_formula.specs.Safe.{safe, arranged, query_safe, sentence_safe}
+use Rattle.dbn_formula.specs.Solve.{chosen, solutions_over}
+use Rattle.dbn_formula.specs.Solutions.{solvable, solutions, AcceptsQuery, AcceptsSentence}
+use Rattle.dbn_formula.specs.Written.{written, relations, depth_of}
 use Rattle.dbn_formula.proofs.HoldsLaws.{holds_laws}
 use Rattle.dbn_formula.proofs.ConstantsLaws.{constants_laws}
 use Rattle.dbn_formula.proofs.NormalLaws.{normal_laws}
@@ -26,6 +31,9 @@ use Rattle.dbn_formula.proofs.SizeLaws.{size_laws}
 use Rattle.dbn_formula.proofs.TypingLaws.{typing_laws}
 use Rattle.dbn_formula.proofs.ApartLaws.{apart_laws}
 use Rattle.dbn_formula.proofs.SafeLaws.{safe_laws}
+use Rattle.dbn_formula.proofs.SolveLaws.{solve_laws}
+use Rattle.dbn_formula.proofs.WrittenLaws.{written_laws, relations_laws, depth_laws}
+use Rattle.dbn_formula.proofs.VariableLaws.{bound_in}
 
 -- variables of one letter, with mark 0 as in the text of a net, and renamed ones
 abbrev named : ℕ → ℕ → Var
@@ -110,6 +118,78 @@ firsts_answers = simp (holds_laws, constants_laws) refl
 firsts_renamed : renamed firsts ≡ Exists ((named 121 1, col.Int) ∷ []) (Atom 0 (term.Var x ∷ term.Var (named 121 1) ∷ []))
 firsts_renamed = simp apart_laws refl
 
+-- as it is solved
+abbrev firsts_apart : Formula
+firsts_apart = Exists ((named 121 1, col.Int) ∷ []) (Atom 0 (term.Var x ∷ term.Var (named 121 1) ∷ []))
+
+firsts_normal : normal firsts ≡ firsts
+firsts_normal = simp normal_laws refl
+
+firsts_arranged : arranged firsts_apart [] ≡ firsts_apart
+firsts_arranged = simp (safe_laws, occurrences_laws) refl
+
+firsts_solvable : solvable firsts ≡ firsts_apart
+firsts_solvable = ap (λ f. arranged (renamed f) []) firsts_normal ∙ ap (λ f. arranged f []) firsts_renamed ∙ firsts_arranged
+
+abbrev two_rows : Instance
+two_rows = ((int 1 ∷ int 2 ∷ []) ∷ (int 3 ∷ int 4 ∷ []) ∷ []) ∷ []
+
+-- each row gives a solution, which forgets the quantified variable
+firsts_solved : solutions firsts two_rows ≡ ((x, int 1) ∷ []) ∷ ((x, int 3) ∷ []) ∷ []
+unfolding chosen
+firsts_solved = ap (λ f. solutions_over (domain firsts two_rows) two_rows f []) firsts_solvable ∙ simp (solve_laws, constants_laws) refl
+
+firsts_apart_safe : safe firsts_apart [] ≡ true
+firsts_apart_safe = simp (safe_laws, occurrences_laws) refl
+
+firsts_safe : query_safe firsts ≡ true
+firsts_safe = ap (λ f. safe (renamed f) []) firsts_normal ∙ ap (λ f. safe f []) firsts_renamed ∙ firsts_apart_safe
+
+firsts_typed : type_fault ((col.Int ∷ col.Int ∷ []) ∷ []) firsts ((x, col.Int) ∷ []) ≡ None
+firsts_typed = simp (typing_laws, occurrences_laws) refl
+
+firsts_occur : occurrences firsts ≡ x ∷ []
+firsts_occur = simp occurrences_laws refl
+
+firsts_accepted : AcceptsQuery ((col.Int ∷ col.Int ∷ []) ∷ []) ((x, col.Int) ∷ []) firsts
+firsts_accepted = record {
+  typed = firsts_typed;
+  once = refl;
+  all_free = λ z b. let entry = bound_in ((x, col.Int) ∷ []) z b in
+      subst (In z) (sym firsts_occur) (inl (entry.2 ∙ ⊎_elim (λ here. ap (λ v. v.0) here) (λ none. absurd none) entry.1));
+  is_safe = firsts_safe;
+}
+
+-- ---- exists x y (R x y): a quantifier of two variables
+
+abbrev pairs : Formula
+pairs = Exists ((x, col.Int) ∷ (y, col.Int) ∷ []) (Atom 0 (term.Var x ∷ term.Var y ∷ []))
+
+pairs_renamed : renamed pairs ≡ Exists ((named 120 1, col.Int) ∷ (named 121 2, col.Int) ∷ []) (Atom 0 (term.Var (named 120 1) ∷ term.Var (named 121 2) ∷ []))
+pairs_renamed = simp apart_laws refl
+
+pairs_free : free pairs ≡ []
+pairs_free = simp occurrences_laws refl
+
+pairs_size : size pairs ≡ 5
+pairs_size = simp size_laws refl
+
+pairs_some : answers pairs [] two_rows ≡ [] ∷ []
+pairs_some = simp (holds_laws, constants_laws) refl
+
+pairs_none : answers pairs [] ([] ∷ []) ≡ []
+pairs_none = simp (holds_laws, constants_laws) refl
+
+pairs_written : written pairs ≡ x ∷ y ∷ x ∷ y ∷ []
+pairs_written = simp written_laws refl
+
+pairs_relations : relations pairs ≡ 0 ∷ []
+pairs_relations = simp relations_laws refl
+
+-- (exists ((x int) (y int)) (R x y))
+pairs_depth : depth_of pairs ≡ 3
+pairs_depth = simp depth_laws refl
+
 -- ---- Emp 0, Ticket 1, Resp 2: idle agents, and that a busy one has one ticket
 
 abbrev idle : Formula
@@ -167,7 +247,31 @@ busy_lost = simp (holds_laws, constants_laws) refl
 busy_kept : answers busy [] ([] ∷ [] ∷ ((Id 0 ∷ ann ∷ []) ∷ (Id 1 ∷ bob ∷ []) ∷ []) ∷ []) ≡ [] ∷ []
 busy_kept = simp (holds_laws, constants_laws) refl
 
+abbrev twice_apart : Formula
+twice_apart =
+    Exists ((named 116 1, col.Id) ∷ (named 117 2, col.Id) ∷ (named 101 3, col.Text) ∷ [])
+    (And
+    (And (Atom 2 (term.Var (named 116 1) ∷ term.Var (named 101 3) ∷ []) ∷ Atom 2 (term.Var (named 117 2) ∷ term.Var (named 101 3) ∷ []) ∷ [])
+    ∷ Test cmp.Ne (term.Var (named 116 1)) (term.Var (named 117 2))
+    ∷ []))
+
+twice_renamed : renamed twice ≡ twice_apart
+twice_renamed = simp apart_laws refl
+
+twice_apart_safe : safe twice_apart [] ≡ true
+twice_apart_safe = simp (safe_laws, occurrences_laws) refl
+
+busy_safe : sentence_safe busy ≡ true
+busy_safe = ap (λ f. safe (renamed f) []) busy_denied ∙ ap (λ f. safe f []) twice_renamed ∙ twice_apart_safe
+
+busy_accepted : AcceptsSentence ((col.Text ∷ []) ∷ (col.Id ∷ col.Text ∷ []) ∷ (col.Id ∷ col.Text ∷ []) ∷ []) busy
+busy_accepted = record { typed = busy_typed; is_safe = busy_safe }
+
 -- ---- what isn't safe
+
+-- a part of `or` that leaves a variable of another part without a value
+unsafe_or : safe (Or (Atom 0 (term.Var x ∷ []) ∷ Atom 1 (term.Var x ∷ term.Var y ∷ []) ∷ [])) [] ≡ false
+unsafe_or = simp (safe_laws, occurrences_laws) refl
 
 -- exists x (not (R x))
 unsafe_denial : safe (Exists ((x, col.Int) ∷ []) (Not (Atom 0 (term.Var x ∷ [])))) [] ≡ false
@@ -199,6 +303,9 @@ unsafe_equation = simp safe_laws refl
 -- a conjunct that is taken later
 late_denial : safe (And (Not (Atom 0 (term.Var x ∷ [])) ∷ Atom 1 (term.Var x ∷ []) ∷ [])) [] ≡ true
 late_denial = simp (safe_laws, occurrences_laws) refl
+
+late_arranged : arranged (And (Not (Atom 0 (term.Var x ∷ [])) ∷ Atom 1 (term.Var x ∷ []) ∷ [])) [] ≡ And (Atom 1 (term.Var x ∷ []) ∷ Not (Atom 0 (term.Var x ∷ [])) ∷ [])
+late_arranged = simp (safe_laws, occurrences_laws) refl
 
 -- ---- a quantified variable that isn't free below still needs a value
 

@@ -36,29 +36,33 @@ module _ (rels more : Shapes) where
   kept : (f : Formula) → Kept f
   kept = induction Kept (record {
     atom = λ rel terms first.
-        let same = index_kept rels more rel [] (first rel (subst (In rel) (sym (relations_atom rel terms)) (inl refl))) in
-        (arity_atom (rels ++ more) rel terms ∙ ap (λ shape. length terms == length shape) same ∙ sym (arity_atom rels rel terms),
-        λ scope. types_atom (rels ++ more) rel terms scope ∙ ap (λ shape. terms_fit scope terms shape) same ∙ sym (types_atom rels rel terms scope));
+        let same = index_kept rels more rel [] (first rel (subst (In rel) (sym (relations_atom rel terms)) (inl refl))) in (
+          arity_atom (rels ++ more) rel terms ∙ ap (λ shape. length terms == length shape) same ∙ sym (arity_atom rels rel terms),
+          λ scope. types_atom (rels ++ more) rel terms scope ∙ ap (λ shape. terms_fit scope terms shape) same ∙ sym (types_atom rels rel terms scope),
+        );
     test = λ c left right first.
         (arity_test (rels ++ more) c left right ∙ sym (arity_test rels c left right), λ scope. types_test (rels ++ more) c left right scope ∙ sym (types_test rels c left right scope));
-    both = λ fs each first.
-        (arity_and (rels ++ more) fs ∙ all_same (arity_fits (rels ++ more)) (arity_fits rels) fs (λ f at. (recursion_at Kept f fs each at (of_and fs first f at)).0) ∙ sym (arity_and rels fs),
-        λ scope. types_and (rels ++ more) fs scope
-        ∙ all_same (λ f. types_fit (rels ++ more) f scope) (λ f. types_fit rels f scope) fs (λ f at. (recursion_at Kept f fs each at (of_and fs first f at)).1 scope)
-        ∙ sym (types_and rels fs scope));
-    either = λ fs each first.
-        (arity_or (rels ++ more) fs ∙ all_same (arity_fits (rels ++ more)) (arity_fits rels) fs (λ f at. (recursion_at Kept f fs each at (of_or fs first f at)).0) ∙ sym (arity_or rels fs),
-        λ scope. types_or (rels ++ more) fs scope
-        ∙ all_same (λ f. types_fit (rels ++ more) f scope) (λ f. types_fit rels f scope) fs (λ f at. (recursion_at Kept f fs each at (of_or fs first f at)).1 scope)
-        ∙ sym (types_or rels fs scope));
+    both = λ fs each first. (
+      arity_and (rels ++ more) fs ∙ all_same (arity_fits (rels ++ more)) (arity_fits rels) fs (λ f at. (recursion_at Kept f fs each at (of_and fs first f at)).0) ∙ sym (arity_and rels fs),
+      λ scope. types_and (rels ++ more) fs scope
+          ∙ all_same (λ f. types_fit (rels ++ more) f scope) (λ f. types_fit rels f scope) fs (λ f at. (recursion_at Kept f fs each at (of_and fs first f at)).1 scope)
+          ∙ sym (types_and rels fs scope),
+    );
+    either = λ fs each first. (
+      arity_or (rels ++ more) fs ∙ all_same (arity_fits (rels ++ more)) (arity_fits rels) fs (λ f at. (recursion_at Kept f fs each at (of_or fs first f at)).0) ∙ sym (arity_or rels fs),
+      λ scope. types_or (rels ++ more) fs scope
+          ∙ all_same (λ f. types_fit (rels ++ more) f scope) (λ f. types_fit rels f scope) fs (λ f at. (recursion_at Kept f fs each at (of_or fs first f at)).1 scope)
+          ∙ sym (types_or rels fs scope),
+    );
     denial = λ f part first.
         let here = part (λ n at. first n (subst (In n) (sym (relations_not f)) at)) in
         (arity_not (rels ++ more) f ∙ here.0 ∙ sym (arity_not rels f), λ scope. types_not (rels ++ more) f scope ∙ here.1 scope ∙ sym (types_not rels f scope));
     implication = λ f g one two first.
         let l = one (λ n at. first n (subst (In n) (sym (relations_implies f g)) (append_left n (relations f) (relations g) at))) in
-        let r = two (λ n at. first n (subst (In n) (sym (relations_implies f g)) (append_right n (relations f) (relations g) at))) in
-        (arity_implies (rels ++ more) f g ∙ ap (λ b. b && arity_fits (rels ++ more) g) l.0 ∙ ap (λ b. arity_fits rels f && b) r.0 ∙ sym (arity_implies rels f g),
-        λ scope. types_implies (rels ++ more) f g scope ∙ ap (λ b. b && types_fit (rels ++ more) g scope) (l.1 scope) ∙ ap (λ b. types_fit rels f scope && b) (r.1 scope) ∙ sym (types_implies rels f g scope));
+        let r = two (λ n at. first n (subst (In n) (sym (relations_implies f g)) (append_right n (relations f) (relations g) at))) in (
+          arity_implies (rels ++ more) f g ∙ ap (λ b. b && arity_fits (rels ++ more) g) l.0 ∙ ap (λ b. arity_fits rels f && b) r.0 ∙ sym (arity_implies rels f g),
+          λ scope. types_implies (rels ++ more) f g scope ∙ ap (λ b. b && types_fit (rels ++ more) g scope) (l.1 scope) ∙ ap (λ b. types_fit rels f scope && b) (r.1 scope) ∙ sym (types_implies rels f g scope),
+        );
     some = λ vars f part first.
         let here = part (λ n at. first n (subst (In n) (sym (relations_exists vars f)) at)) in
         (arity_exists (rels ++ more) vars f ∙ here.0 ∙ sym (arity_exists rels vars f), λ scope. types_exists (rels ++ more) vars f scope ∙ here.1 (entered vars scope) ∙ sym (types_exists rels vars f scope));

@@ -23,7 +23,7 @@ use Rattle.dbn_formula.specs.Distinct.{distinct_vars, distinct}
 use Rattle.dbn_formula.specs.Safe.{safe, safe_in_order}
 use Rattle.dbn_formula.specs.Solve.{is_empty}
 use Rattle.dbn_formula.specs.Ready.{AreValued, RowIn, RowsIn, ValuesIn, Ready}
-use Rattle.dbn_formula.specs.Solutions.{solvable, solutions, HasShape, HasShapes, AcceptsQuery, AcceptsSentence, IsSolution}
+use Rattle.dbn_formula.specs.Solutions.{solvable, solutions, HasShapes, AcceptsQuery, AcceptsSentence, IsSolution}
 use Rattle.dbn_formula.specs.declared.formula.Formula.{Formula}
 use Rattle.dbn_formula.specs.declared.formula.Formula.TheVariants.{Not}
 use Rattle.dbn_formula.proofs.NoFault.{no_fault}
@@ -85,18 +85,13 @@ value_of_row db rel row v at within =
     let found = in_rows db rel row at in
     flat_in (λ rows. flat_map (λ r. r) rows) v found.0 db found.1 (flat_in (λ r. r) v row found.0 found.2 within)
 
-cells_in : (f : Formula) (db : Instance) (row : List Value) (shape : List ColType) → HasShape row shape → ((v : Value) → In v row → In v (values_in db)) → RowIn (domain f db) row shape
-cells_in f db [] [] fits known = tt
-cells_in f db [] (type ∷ shape) fits known = fits
-cells_in f db (v ∷ row) [] fits known = fits
-cells_in f db (v ∷ row) (type ∷ shape) fits known = (
-  subst (λ t. In v (domain f db t)) fits.0 (in_domain f db v (append_left v (values_in db) (constants f) (known v (inl refl)))),
-  cells_in f db row shape fits.1 (λ w at. known w (inr at)),
-)
+cells_in : (f : Formula) (db : Instance) (row : List Value) → ((v : Value) → In v row → In v (values_in db)) → RowIn (domain f db) row (map value_type row)
+cells_in f db [] known = tt
+cells_in f db (v ∷ row) known = (in_domain f db v (append_left v (values_in db) (constants f) (known v (inl refl))), cells_in f db row (λ w at. known w (inr at)))
 
 pub rows_in : (f : Formula) (rels : Shapes) (db : Instance) → HasShapes rels db → RowsIn (domain f db) rels db
 rows_in f rels db fits = record {
-  each = λ rel row at. cells_in f db row (slice_index_or rels rel []) (fits.each rel row at) (λ v within. value_of_row db rel row v at within);
+  each = λ rel row at. subst (RowIn (domain f db) row) (fits.each rel row at) (cells_in f db row (λ v within. value_of_row db rel row v at within));
 }
 
 -- ---- a formula that is well typed and safe is ready to be solved

@@ -2,6 +2,7 @@
 use Rattle.std.specs.Prelude.{◌≡◌, ℕ, true, List, [], ◌∷◌, map, None, slice_index_or}
 use Rattle.dbn_value.specs.Members.{In}
 use Rattle.dbn_value.specs.Order.{value_type}
+use Rattle.dbn_value.specs.Shape.{HasShape as HasTypes}
 use Rattle.dbn_value.specs.declared.value.Value.{Value}
 use Rattle.dbn_value.specs.declared.value.ColType.{ColType}
 use Rattle.dbn_value.specs.declared.term.Var.{Var}
@@ -27,10 +28,7 @@ solutions f db = solutions_over (domain f db) db (solvable f) []
 
 -- the values of a row have the types of its columns
 abbrev pub HasShape : List Value → List ColType → Type 0
-HasShape [] [] = Unit {0}
-HasShape [] (type ∷ shape) = ⊥
-HasShape (v ∷ row) [] = ⊥
-HasShape (v ∷ row) (type ∷ shape) = (value_type v ≡ type) × HasShape row shape
+HasShape row shape = HasTypes value_type row shape
 
 -- the rows of each relation have its shape
 pub record HasShapes (rels : Shapes) (db : Instance) : Type 0 where

@@ -29,8 +29,9 @@ pub use laws::{
 pub use normal_form::{normal, normal_denied};
 pub use safety::safe;
 pub use safety_laws::{
-    answers_are_what_holds, any_safe_conjunct_first, arranging_keeps, renaming_keeps, safe_formulas_are_bounded,
-    safe_formulas_are_solved, safe_stays_safe, solutions_are_sound_and_complete,
+    answers_are_what_holds, any_safe_conjunct_first, arranging_keeps, renaming_keeps,
+    safe_formulas_are_bounded, safe_formulas_are_solved, safe_stays_safe,
+    solutions_are_sound_and_complete,
 };
 pub use typing::{TypeFault, all_bound, arity_fits, terms_fit, type_check, types_fit};
 pub use typing_laws::{

@@ -36,7 +36,9 @@ impl From<AllocError> for TypeFault {
 /// The typed variables at a place of a formula: those that were given, and those of the quantifiers around the place, the innermost first.
 #[derive(Drop)]
 pub(crate) enum Scope<'a> {
+    /// The variables that were given.
     Given(&'a [(Var, ColType)]),
+    /// Those of the innermost quantifier, and the scope around it.
     Inner(&'a [(Var, ColType)], &'a Scope<'a>),
 }
 

@@ -160,10 +160,8 @@ pub fn is_unmarked(f: &Formula) -> bool
         Formula::Or(parts) => each_unmarked(parts.as_slice()),
         Formula::Not(part) => is_unmarked(part.get()),
         Formula::Implies(left, right) => is_unmarked(left.get()) && is_unmarked(right.get()),
-        Formula::Exists { vars, body } => vars_unmarked(vars.as_slice())
-            && is_unmarked(body.get()),
-        Formula::Forall { vars, body } => vars_unmarked(vars.as_slice())
-            && is_unmarked(body.get()),
+        Formula::Exists { vars, body } => vars_unmarked(vars.as_slice()) && is_unmarked(body.get()),
+        Formula::Forall { vars, body } => vars_unmarked(vars.as_slice()) && is_unmarked(body.get()),
     }
 }
 
