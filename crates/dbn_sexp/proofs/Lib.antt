@@ -6,3 +6,5 @@ pub mod PrintLaws
 pub mod ReadLaws
 pub mod ScanLaws
 pub mod TreeLaws
+pub mod PartLaws
+pub mod LinesLaws

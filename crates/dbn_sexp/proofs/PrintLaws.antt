@@ -4,6 +4,7 @@ use Rattle.std.specs.Prelude.{Ok, Some}
 use Rattle.std.specs.Option.{option_map, option_map_or}
 use Rattle.std.specs.List.{flat_map, AllByRecursion}
 use Rattle.std.proofs.lemmas.Bool.{lt-leb}
+use Rattle.std.proofs.lemmas.Grind.{flat_map-append}
 use Rattle.dbn_value.specs.Text.{IsName}
 use Rattle.dbn_value.specs.Spelling.{spelling, value_of_bytes, IsValue}
 use Rattle.dbn_value.specs.declared.value.Value.{Value}
@@ -199,3 +200,7 @@ list_text out opened_ inside all one list is p q r =
     let texts : List ℕ = spaced (map (λ part. item_text part.item) list) in
     r ∙ ap (λ x. x ++ 41 ∷ []) (q ∙ ap (λ x. x ++ texts) p) ∙ append_assoc (out ++ 40 ∷ []) texts (41 ∷ []) ∙ append_assoc out (40 ∷ []) (texts ++ 41 ∷ [])
     ∙ sym (ap (λ o. out ++ item_text o) is ∙ ap (λ t. out ++ t) (text_list list))
+
+-- the text of two lists is the two texts
+pub text_append : (xs ys : List Sexp) → text (xs ++ ys) ≡ text xs ++ text ys
+text_append xs ys = flat_map-append (λ (one : Sexp). item_text one.item ++ 10 ∷ []) xs ys

@@ -1,4 +1,5 @@
 pub mod Tokens
 pub mod Reading
 pub mod Gives
+pub mod Parts
 pub mod Printing

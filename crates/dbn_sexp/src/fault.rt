@@ -19,7 +19,7 @@ pub enum SexpKind {
 }
 
 /// Why a text isn't read.
-#[derive(Debug, Drop)]
+#[derive(Debug, Clone, Copy, PartialEq, Eq, Drop)]
 pub enum SexpFault {
     /// The first fault of the text, and its line.
     Bad {

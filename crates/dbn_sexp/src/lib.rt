@@ -1,14 +1,16 @@
-//! S-expressions: reading a text and printing a list.
+//! S-expressions: reading a text, taking what was read apart, and printing a list.
 #![tactic(auto)]
 
 mod fault;
+mod parts;
 mod printing;
 mod reading;
 mod scanning;
 mod sexp;
 
 pub use fault::{SexpFault, SexpKind};
-pub use printing::{print, text_is_read_again};
+pub use parts::{constant_in, list_in, word_in};
+pub use printing::{print, print_line, text_is_read_again};
 pub use reading::read_all;
 pub use sexp::{Item, Sexp, SexpList};
 

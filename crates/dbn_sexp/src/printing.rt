@@ -1,6 +1,6 @@
 //! Printing a list.
 
-ghost use Rattle.std.specs.Prelude.{◌≡◌, ◌++◌, ◌∷◌, ◌≤◌, ℕ, List, Ok, map, IfOk, OnOk};
+ghost use Rattle.std.specs.Prelude.{◌≡◌, ◌++◌, ◌∷◌, [], ◌≤◌, ℕ, List, Ok, map, IfOk, OnOk};
 ghost use Rattle.std.specs.List.{flat_map, AllByRecursion};
 ghost use Rattle.dbn_sexp.specs.Reading.{reads};
 ghost use Rattle.dbn_sexp.specs.Printing.{item_text, spaced, text, atoms, IsAtom, HasAtoms, IsWithinDepth, on_lines};
@@ -48,14 +48,23 @@ fn print_spaced(alloc: Global, out: &mut Vec<u8>, list: &[Sexp]) -> Result<(), A
     Ok(())
 }
 
+/// Adds the text of one item and a line feed at the end. An error is want of memory.
+pub fn print_line(alloc: Global, out: &mut Vec<u8>, one: &Sexp) -> Result<(), AllocError>
+    ensures text { OnOk result (out.new.items ≡ out.old.items ++ item_text one.now.item ++ 10 ∷ []) }
+    ensures atoms { OnOk result (AllByRecursion IsAtom (atoms one.now.item)) }
+{
+    print_item(alloc, out, &one.item)?;
+    out.push(b'\n')?;
+    Ok(())
+}
+
 /// Adds the text of each item on a line of its own. An error is want of memory.
 fn print_lines(alloc: Global, out: &mut Vec<u8>, list: &[Sexp]) -> Result<(), AllocError>
     ensures text { OnOk result (out.new.items ≡ out.old.items ++ text list.now) }
     ensures atoms { OnOk result (HasAtoms list.now) }
 {
     for one in list {
-        print_item(alloc, out, &one.item)?;
-        out.push(b'\n')?;
+        print_line(alloc, out, one)?;
     }
     Ok(())
 }

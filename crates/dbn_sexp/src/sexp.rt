@@ -10,7 +10,9 @@ pub type SexpList = Items<Sexp>;
 #[cycle(sexp)]
 #[derive(Debug, Drop)]
 pub struct Sexp {
+    /// The line of its first byte, from 1 on.
     pub line: u64,
+    /// What it is.
     pub item: Item,
 }
 
@@ -18,7 +20,10 @@ pub struct Sexp {
 #[cycle(sexp)]
 #[derive(Debug, Drop)]
 pub enum Item {
+    /// A name or an operator.
     Name(Name),
+    /// A constant, in the one spelling of its value.
     Const(Value),
+    /// A list of items, between parentheses.
     List(SexpList),
 }
