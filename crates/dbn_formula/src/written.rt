@@ -5,7 +5,7 @@ ghost use Rattle.dbn_formula.specs.Free.{variable_of};
 ghost use Rattle.dbn_formula.specs.Written.{written, of_first, depth_of};
 
 use super::formula::Formula;
-use dbn_value::{Cell, ColType, Term, Value, Var};
+use dbn_value::{ColType, CopyIn, Term, Value, Var};
 use sqlite_items::Items;
 use std::alloc::{AllocError, Global};
 

@@ -1,12 +1,15 @@
 //! What no clause says: that calls succeed, and what bytes and orders from outside are.
 
 use super::{
-    Bytes, Cell, Coder, ColType, CopyIn, IdNo, Name, Nums, PlainCoder, Row, Shape, Shapes, Term,
-    Txt, Value, ValueFault, Var, compare, copy_items, in_range, pick, read_value, spell,
+    Bytes, Cell, Cmp, Coder, ColType, CopyIn, ID_END, IdNo, Member, Members, Name, Nums,
+    PlainCoder, Row, Shape, Shapes, Term, Txt, Value, ValueFault, Var, coding, compare, copy_items,
+    find_row, get_row, has_shape, in_range, join_rows, pick, put_row, read_value, row_of,
+    same_type, spell, value_of,
 };
 use sqlite_items::Items;
 use std::alloc::{AllocError, Global};
 use std::cmp::Ordering;
+use std::collections::BTreeSet;
 use std::test::Fail;
 
 #[test]
@@ -132,8 +135,8 @@ fn ids_end_below_2_to_62(rt: HostRuntime) {
     let rows = [
         (0, Some(0)),
         (7, Some(7)),
-        ((1 << 62) - 1, Some((1 << 62) - 1)),
-        (1 << 62, None),
+        (ID_END - 1, Some((1 << 62) - 1)),
+        (ID_END, None),
         (u64::MAX, None),
     ];
     for (number, wanted) in rows {
@@ -228,6 +231,110 @@ fn columns_of_rows_are_picked(rt: HostRuntime) -> Result<(), Fail> {
 }
 
 #[test]
+fn rows_are_joined_and_taken_apart(rt: HostRuntime) -> Result<(), Fail> {
+    let alloc = rt.alloc();
+    let (left, right) = (row(alloc)?, pick(alloc, &row(alloc)?, &[2])?);
+    let both = join_rows(alloc, &left, &right)?;
+    assert_eq!(rt; both, pick(alloc, &left, &[0, 1, 2, 2])?);
+    assert_eq!(rt; both.get(3), right.get(0));
+    assert!(rt; both.get(4).is_none() && !both.is_empty());
+    assert_eq!(rt; right.into_vec().len(), 1);
+    assert!(rt; Row::<Value>::from_vec(Vec::new(alloc)).is_empty());
+    let mut members: Members = Items::new(alloc);
+    members.push(Member { t: 2, row: both })?;
+    assert_eq!(rt; members.copy_in(alloc)?.as_slice(), members.as_slice());
+    Ok(())
+}
+
+#[test]
+fn rows_have_shapes(rt: HostRuntime) -> Result<(), Fail> {
+    let alloc = rt.alloc();
+    let row = row(alloc)?;
+    let rows: [(&[ColType], bool); 4] = [
+        (&[ColType::Int, ColType::Text, ColType::Id], true),
+        (&[ColType::Int, ColType::Text, ColType::Int], false),
+        (&[ColType::Int, ColType::Text], false),
+        (
+            &[ColType::Int, ColType::Text, ColType::Id, ColType::Id],
+            false,
+        ),
+    ];
+    for (types, wanted) in rows {
+        let shape: Shape = Items::from_vec(types.to_vec(alloc)?);
+        assert_eq!(rt; has_shape(&row, &shape), wanted, "at {types:?}");
+    }
+    assert!(rt; same_type(ColType::Id, ColType::Id) && !same_type(ColType::Id, ColType::Text));
+    Ok(())
+}
+
+/// The row as it comes back from the coder, where its cells are found again.
+fn code_row<P: Coder>(alloc: Global, row: &Row<Value>) -> Result<Option<Row<Value>>, AllocError> {
+    let mut coder = P::empty(alloc)?;
+    let cells = put_row(alloc, &mut coder, row)?;
+    coding(&coder);
+    let again = get_row(alloc, &coder, &cells)?;
+    Ok(match find_row(alloc, &coder, row)? {
+        Some(found) => if found == cells { Some(again) } else { None },
+        None => None,
+    })
+}
+
+#[test]
+fn rows_go_through_coders(rt: HostRuntime) -> Result<(), Fail> {
+    let row = row(rt.alloc())?;
+    assert_eq!(rt; code_row::<PlainCoder>(rt.alloc(), &row)?, Some(row));
+    Ok(())
+}
+
+#[test]
+fn comparisons_go_by_orders(rt: HostRuntime) {
+    let rows = [
+        (Cmp::Eq, (false, true, false)),
+        (Cmp::Ne, (true, false, true)),
+        (Cmp::Lt, (true, false, false)),
+        (Cmp::Le, (true, true, false)),
+        (Cmp::Gt, (false, false, true)),
+        (Cmp::Ge, (false, true, true)),
+    ];
+    for (cmp, (less, equal, greater)) in rows {
+        assert_eq!(rt; cmp.meets(Ordering::Less), less);
+        assert_eq!(rt; cmp.meets(Ordering::Equal), equal);
+        assert_eq!(rt; cmp.meets(Ordering::Greater), greater);
+    }
+}
+
+/// The variable with this name and the mark 0.
+fn var(alloc: Global, name: &[u8]) -> Result<Var, Fail> {
+    let name = Name::from_bytes(alloc, name)?;
+    Ok(Var { name, mark: 0 })
+}
+
+#[test]
+fn terms_stand_for_the_last_value(rt: HostRuntime) -> Result<(), Fail> {
+    let alloc = rt.alloc();
+    let row = row(alloc)?;
+    let scope = [
+        (var(alloc, b"x")?, ColType::Int),
+        (var(alloc, b"y")?, ColType::Text),
+        (var(alloc, b"x")?, ColType::Id),
+        (var(alloc, b"z")?, ColType::Id),
+    ];
+    let terms = [
+        Term::Var(var(alloc, b"x")?),
+        Term::Var(var(alloc, b"y")?),
+        Term::Var(var(alloc, b"z")?),
+        Term::Const(Value::Int(4)),
+    ];
+    assert_eq!(rt; value_of(&terms[0], &scope, &row), row.get(2));
+    assert_eq!(rt; value_of(&terms[1], &scope, &row), row.get(1));
+    assert!(rt; value_of(&terms[2], &scope, &row).is_none());
+    let made = row_of(alloc, &terms, &scope, &row)?;
+    assert_eq!(rt; made.len(), 4);
+    assert!(rt; made.get(2) == Some(&Value::Int(0)) && made.get(3) == Some(&Value::Int(4)));
+    Ok(())
+}
+
+#[test]
 fn lists_keep_what_they_are_made_of(rt: HostRuntime) -> Result<(), Fail> {
     let alloc = rt.alloc();
     let bytes = Bytes::from_vec([1, 2].to_vec(alloc)?);
@@ -253,11 +360,22 @@ fn lists_keep_what_they_are_made_of(rt: HostRuntime) -> Result<(), Fail> {
 
 #[test]
 fn names_are_identifiers_and_operators(rt: HostRuntime) -> Result<(), Fail> {
-    let names: [&[u8]; 9] = [b"a", b"Z9", b"a-b_1", b"=", b"!=", b"<", b"<=", b">", b">="];
-    for bytes in names {
+    let names: [(&[u8], bool); 9] = [
+        (b"a", true),
+        (b"Z9", true),
+        (b"a-b_1", true),
+        (b"=", false),
+        (b"!=", false),
+        (b"<", false),
+        (b"<=", false),
+        (b">", false),
+        (b">=", false),
+    ];
+    for (bytes, plain) in names {
         let name = Name::from_bytes(rt.alloc(), bytes)?;
         assert_eq!(rt; name.as_bytes(), bytes);
-        assert!(rt; name.same(&name.copy_in(rt.alloc())?));
+        assert!(rt; name == name.copy_in(rt.alloc())?);
+        assert_eq!(rt; name.is_plain(), plain);
     }
     let others: [&[u8]; 10] = [
         b"",
@@ -290,6 +408,17 @@ fn a_name_is_made_of_a_vector(rt: HostRuntime) -> Result<(), Fail> {
 }
 
 #[test]
+fn variables_are_keys(rt: HostRuntime) -> Result<(), Fail> {
+    let alloc = rt.alloc();
+    let (x, y) = (var(alloc, b"x")?, var(alloc, b"y")?);
+    let mut vars = BTreeSet::new(alloc);
+    assert!(rt; vars.insert(&y)? && vars.insert(&x)? && !vars.insert(&y)?);
+    assert_eq!(rt; vars.len(), 2);
+    assert!(rt; vars.contains(&&x));
+    Ok(())
+}
+
+#[test]
 fn variables_and_terms_are_copied(rt: HostRuntime) -> Result<(), Fail> {
     let alloc = rt.alloc();
     let first = Var {
@@ -300,7 +429,9 @@ fn variables_and_terms_are_copied(rt: HostRuntime) -> Result<(), Fail> {
         name: first.name.copy_in(alloc)?,
         mark: 1,
     };
-    assert!(rt; !first.same(&second) && first.same(&first.copy_in(alloc)?));
+    assert!(rt;
+        first < second && second < var(alloc, b"x1")? && first.same(&first.copy_in(alloc)?)
+    );
     let typed = [(first, ColType::Id)];
     let vars = copy_items(alloc, &typed)?;
     assert_eq!(rt; vars.len(), 1);
