@@ -4,7 +4,7 @@ use Rattle.std.proofs.lemmas.List.{append-nil, drop_more}
 use Rattle.std.proofs.Math.ListN.{drop_of_length-le}
 use Rattle.dbn_value.specs.declared.value.ColType.{ColType}
 use Rattle.dbn_value.specs.declared.value.Value.{Value}
-use Rattle.dbn_codec.specs.declared.member.Member.{Member}
+use Rattle.dbn_value.specs.declared.member.Member.{Member}
 use Rattle.dbn_codec.specs.declared.unread.Unread.{Unread}
 use Rattle.dbn_codec.specs.declared.unread.Unread.TheVariants.{NoBody, Memory}
 use Rattle.dbn_codec.specs.Bodies.{Shapes}

@@ -9,7 +9,7 @@ use Rattle.std.proofs.lemmas.List.Elements.{All-head, All-tail}
 use Rattle.dbn_value.specs.Spelling.{IsValue}
 use Rattle.dbn_value.specs.declared.value.ColType.{ColType}
 use Rattle.dbn_value.specs.declared.value.Value.{Value}
-use Rattle.dbn_codec.specs.declared.member.Member.{Member}
+use Rattle.dbn_value.specs.declared.member.Member.{Member}
 use Rattle.dbn_codec.specs.Bodies.{Shapes, value_bytes, member_bytes, member_of, body, group_body, most_members, Fits, IsMember, IsGroup}
 use Rattle.dbn_codec.specs.Reading.{◌>>=◌, number_at, row_at, member_at, members_at, whole, read_body, read_group}
 use Rattle.dbn_codec.proofs.Parts.{IsBytes, IsBytes-all, read_on, passed, done, some_is, Takes, Takes-then, wide16, number_takes, number_again}

@@ -8,7 +8,7 @@ use Rattle.std.proofs.lemmas.List.Elements.{All-head, All-tail}
 use Rattle.dbn_value.specs.Spelling.{IsValue}
 use Rattle.dbn_value.specs.declared.value.Value.{Value}
 use Rattle.dbn_value.specs.declared.value.Value.TheVariants.{Int, Text, Id}
-use Rattle.dbn_codec.specs.declared.member.Member.{Member}
+use Rattle.dbn_value.specs.declared.member.Member.{Member}
 use Rattle.dbn_codec.specs.Bodies.{value_bytes, member_bytes, body, group_body, most_members}
 use Rattle.dbn_codec.proofs.Texts.{text_is_short}
 

@@ -7,7 +7,7 @@ use Rattle.dbn_value.specs.Spelling.{IsValue}
 use Rattle.dbn_value.specs.declared.value.ColType.{ColType}
 use Rattle.dbn_value.specs.declared.value.Value.{Value}
 use Rattle.dbn_value.specs.declared.value.Value.TheVariants.{Int, Text, Id}
-use Rattle.dbn_codec.specs.declared.member.Member.{Member}
+use Rattle.dbn_value.specs.declared.member.Member.{Member}
 
 -- the types of the row of each transition
 abbrev pub Shapes : Type 0

@@ -6,7 +6,7 @@ use Rattle.dbn_value.specs.declared.value.ColType.{ColType}
 use Rattle.dbn_value.specs.declared.value.ColType.TheVariants as col
 use Rattle.dbn_value.specs.declared.value.Value.{Value}
 use Rattle.dbn_value.specs.declared.value.Value.TheVariants.{Int, Text, Id}
-use Rattle.dbn_codec.specs.declared.member.Member.{Member}
+use Rattle.dbn_value.specs.declared.member.Member.{Member}
 use Rattle.dbn_codec.specs.declared.unread.Unread.{Unread}
 use Rattle.dbn_codec.specs.declared.unread.Unread.TheVariants.{NoBody, Memory}
 use Rattle.dbn_codec.specs.Bodies.{Shapes, most_members}

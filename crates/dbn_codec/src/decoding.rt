@@ -3,14 +3,13 @@
 ghost use Rattle.std.specs.Prelude.{◌≡◌, ◌≢◌, List, IfOk, IfSome, IfNone};
 ghost use Rattle.std.specs.Option.{option_map};
 ghost use Rattle.std.specs.Int.{w16, w64};
-ghost use Rattle.dbn_codec.specs.declared.member.Member.{Member as OneMember};
+ghost use Rattle.dbn_value.specs.declared.member.Member.{Member as OneMember};
 ghost use Rattle.dbn_codec.specs.Bodies.{body, group_body, as_member, IsMember, IsGroup};
 ghost use Rattle.dbn_codec.specs.Reading.{Gives, behind, number_at, text_of, int_at, text_at, id_at, value_at, row_at, member_at, members_at, whole, read_body, read_group};
 
 use crate::encoding::{ID_TAG, INT_TAG, MAX_MEMBERS, TEXT_TAG};
-use crate::member::{Member, Members};
 use crate::unread::Unread;
-use dbn_value::{ColType, IdNo, Row, Shapes, Txt, Value, ValueFault};
+use dbn_value::{ColType, IdNo, Member, Members, Row, Shapes, Txt, Value, ValueFault};
 use sqlite_items::Items;
 use std::alloc::{AllocError, Global};
 

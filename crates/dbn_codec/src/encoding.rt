@@ -6,8 +6,7 @@ ghost use Rattle.dbn_value.specs.Spelling.{IsValue};
 ghost use Rattle.dbn_codec.specs.Bodies.{Shapes, value_bytes, member_bytes, member_of, body, group_body, most_members, Fits};
 ghost use Rattle.dbn_codec.specs.Reading.{read_body, read_group};
 
-use crate::member::{Member, Members};
-use dbn_value::{Bytes, Row, Value, in_range};
+use dbn_value::{Bytes, Member, Members, Row, Value, in_range};
 use std::alloc::{AllocError, Global};
 
 /// The tag of an int.

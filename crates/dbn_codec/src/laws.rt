@@ -1,7 +1,7 @@
 //! Bodies and members determine each other.
 
 ghost use Rattle.std.specs.Prelude.{◌≡◌, ◌<◌, ℕ, List, Some, All};
-ghost use Rattle.dbn_codec.specs.declared.member.Member.{Member};
+ghost use Rattle.dbn_value.specs.declared.member.Member.{Member};
 ghost use Rattle.dbn_codec.specs.Bodies.{Shapes, body, group_body, IsMember, IsGroup};
 ghost use Rattle.dbn_codec.specs.Reading.{read_body, read_group};
 

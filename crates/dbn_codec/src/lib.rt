@@ -4,7 +4,6 @@
 mod decoding;
 mod encoding;
 mod laws;
-mod member;
 mod unread;
 
 pub use decoding::{decode, decode_group};
@@ -12,7 +11,6 @@ pub use encoding::{MAX_MEMBERS, encode, encode_group};
 pub use laws::{
     bodies_are_read_again, other_members_have_other_bodies, what_is_read_has_that_body,
 };
-pub use member::{Member, Members};
 
 #[cfg(test)]
 mod tests;

@@ -2,8 +2,8 @@
 
 ghost use Rattle.std.specs.Prelude.{◌≡◌, ◌<◌, ◌≤◌, ◌^◌, length, All, IfOk};
 
-use super::{MAX_MEMBERS, Member, Members, decode, decode_group, encode, encode_group};
-use dbn_value::{ColType, Row, Shapes, Value, read_value};
+use super::{MAX_MEMBERS, decode, decode_group, encode, encode_group};
+use dbn_value::{ColType, Member, Members, Row, Shapes, Value, read_value};
 use sqlite_items::Items;
 use std::alloc::Global;
 use std::test::Fail;
