@@ -1,4 +1,5 @@
 pub mod FeedLaws
 pub mod LineLaws
 pub mod ReadingLaws
+pub mod RunLaws
 pub mod Writes

@@ -5,20 +5,20 @@ use Rattle.std.proofs.KnownBytes.{Consumes-nil, Consumes-trans, Consumes-kept}
 use Rattle.std.proofs.Math.Seq.{take-append_seam}
 use Rattle.std.proofs.lemmas.List.Elements.{All-append, All-nil}
 use Rattle.dbn_model.specs.Lines as text
-use Rattle.dbn_io.specs.Window.{Window, allowed, to_come, Unbroken, GivesLines, Moves}
-use Rattle.dbn_io.specs.Reading.{Gives, Loses, Fills, given, is_end}
-use Rattle.dbn_io.specs.LineSoFar.{Holds, Moved}
+use Rattle.dbn_io.specs.Window.{Window, allowed, to_come, Unbroken, Moves}
+use Rattle.dbn_io.specs.Reading.{Gives, Holds, Loses, Fills, given, is_end}
+use Rattle.dbn_io.specs.LineSoFar.{Holds as HoldsLine, Moved}
 use Rattle.dbn_io.specs.declared.lines.Line.{Line}
 use Rattle.dbn_io.specs.declared.take.ReadStop.{ReadStop}
 use Rattle.dbn_io.specs.declared.take.ReadStop.TheVariants.{Failed, Over, Memory}
-use Rattle.dbn_model.proofs.LineLaws.{lines-first}
+use Rattle.dbn_model.proofs.LastPartLaws.{whole-one, part-none}
 
 -- the first of the bytes that are held come first
 part-first : (held part rest : List ℕ) (left : Option (List ℕ)) → held ≡ part ++ rest → Consumes (prepend_known held left) (prepend_known rest left) part
 part-first held part rest None e = tt
 part-first held part rest (Some bytes) e = ap (λ l. l ++ bytes) e ∙ append_assoc part rest bytes
 
-held-first : (held : List ℕ) (left : Option (List ℕ)) → Consumes (prepend_known held left) left held
+pub held-first : (held : List ℕ) (left : Option (List ℕ)) → Consumes (prepend_known held left) left held
 held-first held None = tt
 held-first held (Some bytes) = refl
 
@@ -52,30 +52,15 @@ end-to-come none (Some rest) e end = ap (λ l. l ++ rest) e ∙ end
 pub feed-breaks : (bytes : List ℕ) → Contains bytes 10 → Unbroken bytes → ⊥
 feed-breaks bytes has unbroken = let test = rw has.2 at (unbroken has.0 10 has.1) in cc
 
--- the first line of the bytes to come, whose line feed came
-gives-first : (old left : Option (List ℕ)) (bytes rest : List ℕ) (these : List text.Line) → Unbroken bytes → Consumes old (prepend_known (10 ∷ rest) left) bytes
-    → these ≡ text.line_of bytes ∷ [] → GivesLines old (prepend_known rest left) these
-gives-first None left bytes rest these unbroken h e = tt
-gives-first (Some all) None bytes rest these unbroken h e = absurd h
-gives-first (Some all) (Some more) bytes rest these unbroken h e =
-    ap text.lines h ∙ lines-first bytes (rest ++ more) unbroken ∙ sym (ap (λ l. l ++ text.lines (rest ++ more)) e)
-
--- the lines of the last bytes to come
-gives-last : (old now : Option (List ℕ)) (bytes : List ℕ) (these : List text.Line) → Consumes old now bytes → IsAtEnd now → these ≡ text.lines bytes → GivesLines old now these
-gives-last None now bytes these h end e = tt
-gives-last (Some all) None bytes these h end e = absurd h
-gives-last (Some all) (Some more) bytes these h end e =
-    ap text.lines (h ∙ ap (λ l. bytes ++ l) end ∙ append-nil bytes) ∙ sym e ∙ sym (append-nil these) ∙ sym (ap (λ l. these ++ text.lines l) end)
-
 -- the bytes of the next line that came so far are kept, and they were used of the bytes to come
 pub record ReadSoFar (kept : List ℕ) (is_long : Bool) (before now : Window) (old left : Option (List ℕ)) : Type 0 where
   pub bytes : List ℕ
   pub unbroken : Unbroken bytes
-  pub holds : Holds kept is_long bytes
+  pub holds : HoldsLine kept is_long bytes
   pub used : Consumes (to_come before old) (to_come now left) bytes
   pub count : length bytes + allowed now ≡ allowed before
 
-pub read-nothing : (kept : List ℕ) (is_long : Bool) (before : Window) (old : Option (List ℕ)) → Holds kept is_long [] → ReadSoFar kept is_long before before old old
+pub read-nothing : (kept : List ℕ) (is_long : Bool) (before : Window) (old : Option (List ℕ)) → HoldsLine kept is_long [] → ReadSoFar kept is_long before before old old
 read-nothing kept is_long before old holds = record {
   bytes = [];
   unbroken = All-nil (λ byte. (byte == 10) ≡ false);
@@ -102,9 +87,9 @@ read-more kept is_long kept' is_long' before mid moved now old left new part so_
 
 -- the line feed came
 pub line-found : (kept : List ℕ) (is_long : Bool) (kept' : List ℕ) (is_long' : Bool) (before mid now : Window) (old left : Option (List ℕ)) (part : List ℕ) (line : Line)
-    → ReadSoFar kept is_long before mid old left → Moves true mid now part → now.unread ≡ mid.unread → Moved kept is_long kept' is_long' part
-    → ((bytes : List ℕ) → Holds kept' is_long' bytes → given line ≡ text.line_of bytes ∷ []) → is_end line ≡ false → Gives line before now old left
-line-found kept is_long kept' is_long' before mid now old left part line so_far moves unread more gives not_end =
+    → ReadSoFar kept is_long before mid old left → Moves true mid now part → now.unread ≡ mid.unread → now.at_end ≡ false → Moved kept is_long kept' is_long' part
+    → ((bytes : List ℕ) → HoldsLine kept' is_long' bytes → given line ≡ text.line_of bytes ∷ []) → is_end line ≡ false → Gives line before now old left
+line-found kept is_long kept' is_long' before mid now old left part line so_far moves unread going more gives not_end =
     let bytes : List ℕ = so_far.bytes ++ part in
     let used : Consumes (to_come before old) (prepend_known (10 ∷ now.held) left) bytes =
     Consumes-trans (to_come before old) (to_come mid left) (prepend_known (10 ∷ now.held) left) so_far.bytes part so_far.used
@@ -112,23 +97,24 @@ line-found kept is_long kept' is_long' before mid now old left part line so_far 
     let unbroken : Unbroken bytes = All-append (λ byte. (byte == 10) ≡ false) so_far.bytes part so_far.unbroken more.unbroken in
     let count : length (bytes ++ 10 ∷ []) + allowed now ≡ allowed before =
     omega (arith, length-append bytes (10 ∷ []), length-append so_far.bytes part, ap length moves, length-append part (10 ∷ now.held), so_far.count) in
+    let lines : Holds false (bytes ++ 10 ∷ []) (given line) =
+    (gives bytes (more.holds so_far.bytes so_far.holds) ∙ sym (whole-one bytes unbroken), part-none bytes unbroken) in
     record {
-      lines = gives-first (to_come before old) left bytes now.held (given line) unbroken used (gives bytes (more.holds so_far.bytes so_far.holds));
-      own = (
-        bytes ++ 10 ∷ [],
-        Consumes-trans (to_come before old) (prepend_known (10 ∷ now.held) left) (to_come now left) bytes (10 ∷ []) used
-            (part-first (10 ∷ now.held) (10 ∷ []) now.held left refl),
-        count,
-      );
+      own = bytes ++ 10 ∷ [];
+      used = Consumes-trans (to_come before old) (prepend_known (10 ∷ now.held) left) (to_come now left) bytes (10 ∷ []) used
+          (part-first (10 ∷ now.held) (10 ∷ []) now.held left refl);
+      count = count;
+      lines = subst (λ (end : Bool). Holds end (bytes ++ 10 ∷ []) (given line)) (sym going) lines;
       some = λ _. omega (arith, length-append bytes (10 ∷ []), count);
-      end = λ is. absurd (cc (not_end, is));
+      end = λ is. absurd (cc (going, is));
+      last = λ is. absurd (cc (not_end, is));
     }
 
 -- the end came, behind a last line or none
 pub line-last : (kept : List ℕ) (is_long : Bool) (kept' : List ℕ) (is_long' : Bool) (before mid moved now : Window) (old left new : Option (List ℕ)) (part : List ℕ) (line : Line)
     → ReadSoFar kept is_long before mid old left → Moves false mid moved part → moved.unread ≡ mid.unread → Moved kept is_long kept' is_long' part
     → Fills (Ok false) moved.unread now left new
-    → ((bytes : List ℕ) → Unbroken bytes → Holds kept' is_long' bytes → (given line ≡ text.lines bytes) × (is_end line ≡ false → 0 < length bytes))
+    → ((bytes : List ℕ) → Unbroken bytes → HoldsLine kept' is_long' bytes → (given line ≡ text.lines bytes) × (is_end line ≡ false → 0 < length bytes))
     → Gives line before now old new
 line-last kept is_long kept' is_long' before mid moved now old left new part line so_far moves unread more filled gives =
     let bytes : List ℕ = so_far.bytes ++ part in
@@ -142,10 +128,13 @@ line-last kept is_long kept' is_long' before mid moved now old left new part lin
     let count : length bytes + allowed now ≡ allowed before =
     omega (arith, length-append so_far.bytes part, ap length moves.0, ap length filled.2, filled.3, so_far.count) in
     record {
-      lines = gives-last (to_come before old) (to_come now new) bytes (given line) used (end-to-come now.held new filled.2 filled.1) says.0;
-      own = (bytes, used, count);
+      own = bytes;
+      used = used;
+      count = count;
+      lines = subst (λ (end : Bool). Holds end bytes (given line)) (sym filled.4) says.0;
       some = λ not_end. omega (arith, says.1 not_end, count);
-      end = λ _. end-to-come now.held new filled.2 filled.1;
+      end = λ _. (filled.2, filled.1);
+      last = λ _. filled.4;
     }
 
 -- an error came where the next piece was to be read

@@ -1,12 +1,12 @@
--- The bytes of a source that were read and not yet used, and the lines of those that are to come.
-use Rattle.std.specs.Prelude.{◌≡◌, ℕ, ◌+◌, ⊤, Bool, true, false, ◌==◌, List, [], ◌∷◌, ◌++◌, length, All, Option, None, Some}
-use Rattle.std.specs.Io.KnownBytes.{Consumes, prepend_known}
-use Rattle.dbn_model.specs.Lines.{Line, lines}
+-- The bytes of a source that were read and not yet used.
+use Rattle.std.specs.Prelude.{◌≡◌, ℕ, ◌+◌, Bool, true, false, ◌==◌, List, [], ◌∷◌, ◌++◌, length, All, Option}
+use Rattle.std.specs.Io.KnownBytes.{prepend_known}
 
--- the bytes that were read and not yet used, and how many more may be read
+-- the bytes that were read and not yet used, how many more may be read, and whether a read gave none
 pub record Window : Type 0 where
   pub held : List ℕ
   pub unread : ℕ
+  pub at_end : Bool
 
 -- how many bytes the lines to come may have in all, with their ends
 abbrev pub allowed : Window → ℕ
@@ -19,17 +19,6 @@ to_come window left = prepend_known window.held left
 -- no line ends in these bytes
 abbrev pub Unbroken : List ℕ → Type 0
 Unbroken bytes = All (λ byte. (byte == 10) ≡ false) bytes
-
--- the lines of the bytes that were to come are these lines, and then those of the bytes that are still to come
-abbrev pub GivesLines : Option (List ℕ) → Option (List ℕ) → List Line → Type 0
-GivesLines None now these = ⊤
-GivesLines (Some old) None these = ⊥
-GivesLines (Some old) (Some now) these = lines old ≡ these ++ lines now
-
--- some bytes were used of those to come, and as many fewer are allowed
-abbrev pub UsesOwn : Window → Window → Option (List ℕ) → Option (List ℕ) → Type 0
-UsesOwn before now old new =
-    (own : List ℕ) × Consumes (to_come before old) (to_come now new) own × (length own + allowed now ≡ allowed before)
 
 -- these bytes were used: the next line feed behind them too where the line ended, and all bytes that were held otherwise
 abbrev pub Moves : Bool → Window → Window → List ℕ → Type 0

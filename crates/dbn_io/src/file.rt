@@ -4,14 +4,15 @@ ghost use Rattle.std.specs.Prelude.{◌≡◌, None};
 ghost use Rattle.std.specs.Io.{ReadsAtMost};
 
 use crate::faults::Faults;
+use crate::retry::retried_read;
 use crate::source::Source;
 use crate::trouble::Trouble;
-use std::fs;
-use std::io::{self, Read};
 use std::rt::Files;
+use std::{fs, io};
 
-/// A named file as a source, opened at the first read. It tells no bytes, and counts each error as a fault; where the
-/// file can't be opened, the next read tries again.
+/// A named file as a source, opened at the first read. It tells no bytes, and counts each error as a fault; a read that
+/// a signal interrupts is tried again, 1,000 times at most in all. Where the file can't be opened, the next read tries
+/// again.
 #[derive(Drop)]
 pub struct LazyFileSource<'a, R: Files> {
     rt: &'a R,
@@ -39,10 +40,10 @@ impl<'a, R: Files> LazyFileSource<'a, R> {
         ensures faults { self.new.faults ≡ self.old.faults }
     {
         if let Some(file) = &mut self.file {
-            return file.read(into);
+            return retried_read(file, into);
         }
         let mut file = fs::open(self.rt, self.name)?;
-        let given = file.read(into);
+        let given = retried_read(&mut file, into);
         self.file = Some(file);
         given
     }

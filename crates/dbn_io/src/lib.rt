@@ -10,6 +10,7 @@ mod lists;
 mod memory;
 mod pieces;
 mod plan;
+mod retry;
 mod sink;
 mod source;
 mod standard;

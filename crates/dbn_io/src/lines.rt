@@ -1,6 +1,6 @@
 //! Reading a source line by line.
 
-ghost use Rattle.std.specs.Prelude.{◌≡◌, ◌≢◌, ℕ, ◌<◌, ◌≤◌, List, [], Contains, length, slice_index, IfOk, IfErr, OnErr, IsErrOf, IsFalse};
+ghost use Rattle.std.specs.Prelude.{◌≡◌, ◌≢◌, ℕ, ◌<◌, ◌≤◌, List, [], Contains, length, slice_index, Ok, IfOk, IfErr, OnErr, IsErrOf, IsTrue, IsFalse};
 ghost use Rattle.dbn_model.specs.Causes.{Rose};
 ghost use Rattle.dbn_model.specs.Content.{SameTold};
 
@@ -42,12 +42,15 @@ impl Model for Lines {
 }
 
 impl Lines {
-    ghost use Rattle.dbn_io.specs.Reading.{Gives, Loses, is_last};
+    ghost use Rattle.std.specs.Prelude.{Option, false};
+    ghost use Rattle.dbn_io.specs.Reading.{GivesNext, HasRead, HasStopped, is_end, is_last};
+    ghost use Rattle.dbn_io.specs.Window.{allowed};
+    ghost use Rattle.dbn_model.specs.Lines as text;
 
     /// A reader of lines that takes at most `most` bytes of its source, and one more where there are more.
     pub fn new(alloc: Global, most: u64) -> Result<Lines, AllocError>
-        ensures held { IfOk result (λ lines. lines.window.held ≡ []) }
-        ensures most { IfOk result (λ lines. lines.window.unread ≡ most) }
+        ensures read { IfOk result (λ lines. (initial : Option (List ℕ)) → HasRead most initial initial lines []) }
+        ensures most { IfOk result (λ lines. allowed lines.window ≡ most) }
         ensures ended { IfOk result (λ lines. IsFalse lines.ended) }
     {
         Ok(Lines {
@@ -63,24 +66,32 @@ impl Lines {
         self.ended
     }
 
-    /// The next line of the source, or its end. A line that is held whole is given before the source is read again.
+    /// The next line of the source, or its end. A line that is held whole is given before the source is read again, and
+    /// once a read gave no byte the source is left alone.
     ///
     /// `Over` comes exactly where the source had more bytes than were to be taken, after all lines that end within
-    /// those; `Failed` only where the count of faults rose. After an error nothing more is given, and what was taken of
-    /// the next line is lost.
+    /// those; `Failed` only where the count of faults rose, after the lines that end within the bytes taken. After an
+    /// error nothing more is given, and what was taken of the next line is lost.
     pub fn next<S: Source>(&mut self, alloc: Global, source: &mut S) -> Result<Line, ReadStop>
         requires { IsFalse self.old.ended }
-        ensures line { IfOk result (λ line.
-            Gives line self.old.window self.new.window (S.left source.old) (S.left source.new)) }
-        ensures lost { IfErr result (λ why.
-            Loses why self.old.window (S.left source.old) (S.left source.new)) }
+        ensures line { (most : ℕ) (initial : Option (List ℕ)) (lines : List text.Line) → HasRead most initial (S.left source.old) self.old lines
+            → IfOk result (λ line. GivesNext line most initial (S.left source.new) self.new lines) }
+        ensures stopped { (most : ℕ) (initial : Option (List ℕ)) (lines : List text.Line) → HasRead most initial (S.left source.old) self.old lines
+            → IfErr result (λ why. HasStopped why most initial (S.left source.new) lines) }
         ensures held_first { Contains self.old.window.held 10 → source.new ≡ source.old }
+        ensures at_end { IsTrue self.old.window.at_end → (result ≡ Ok Line.End) × (source.new ≡ source.old) }
+        ensures fewer { IfOk result (λ line. is_end line ≡ false → allowed self.new.window < allowed self.old.window) }
         ensures bound { length self.new.window.held ≤ 65536 }
         ensures ended { self.new.ended ≡ is_last result }
         ensures told { SameTold (S.left source.old) (S.left source.new) }
         ensures later { S.faults source.old ≤ S.faults source.new }
         ensures failed { IsErrOf result ReadStop.Failed → Rose (S.faults source.old) (S.faults source.new) }
+        ensures kept { ¬ IsErrOf result ReadStop.Failed → S.faults source.new ≡ S.faults source.old }
     {
+        if self.pieces.is_at_end() {
+            self.ended = true;
+            return Ok(Line::End);
+        }
         let line = next_line(alloc, &mut self.pieces, source);
         self.ended = !matches!(&line, Ok(Line::Bytes(_) | Line::Long));
         line
@@ -111,6 +122,7 @@ fn take_part(pieces: &mut Pieces, line: &mut LineSoFar) -> Result<bool, AllocErr
     ensures moved { IfOk result (λ ended. (part : List ℕ) × Moves ended pieces.old pieces.new part
         × Moved line.old.bytes.items line.old.is_long line.new.bytes.items line.new.is_long part) }
     ensures unread { pieces.new.unread ≡ pieces.old.unread }
+    ensures at_end { pieces.new.at_end ≡ pieces.old.at_end }
     ensures bound { length pieces.new.held ≤ 65536 }
     ensures err { OnErr result (pieces.new ≡ pieces.old) }
 {
@@ -133,6 +145,7 @@ fn next_line<S: Source>(
     pieces: &mut Pieces,
     source: &mut S,
 ) -> Result<Line, ReadStop>
+    requires { IsFalse pieces.old.at_end }
     ensures line { IfOk result (λ line. Gives line pieces.old pieces.new (S.left source.old) (S.left source.new)) }
     ensures lost { IfErr result (λ why. Loses why pieces.old (S.left source.old) (S.left source.new)) }
     ensures held_first { Contains pieces.old.held 10 → source.new ≡ source.old }
@@ -140,6 +153,7 @@ fn next_line<S: Source>(
     ensures told { SameTold (S.left source.old) (S.left source.new) }
     ensures later { S.faults source.old ≤ S.faults source.new }
     ensures failed { IsErrOf result ReadStop.Failed → Rose (S.faults source.old) (S.faults source.new) }
+    ensures kept { ¬ IsErrOf result ReadStop.Failed → S.faults source.new ≡ S.faults source.old }
 {
     let mut line = LineSoFar::new(alloc);
     'pieces: loop {

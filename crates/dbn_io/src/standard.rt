@@ -3,12 +3,14 @@
 ghost use Rattle.std.specs.Prelude.{◌≡◌, None};
 
 use crate::faults::Faults;
+use crate::retry::{retried_read, retried_write};
 use crate::sink::Sink;
 use crate::source::Source;
 use crate::trouble::Trouble;
 use std::io::{self, Print, Read, Write};
 
-/// A source over a reader of the runtime, such as standard input. It tells no bytes, and counts each error as a fault.
+/// A source over a reader of the runtime, such as standard input. It tells no bytes, and counts each error as a fault;
+/// a call that a signal interrupts is tried again, 1,000 times at most in all.
 #[derive(Drop)]
 pub struct StdSource<R: Read + Drop> {
     reader: R,
@@ -33,7 +35,7 @@ impl<R: Read + Drop> Source for StdSource<R> {
     ghost faults = { λ s. s.faults };
 
     fn read(&mut self, into: &mut [u8]) -> Result<usize, Trouble> {
-        match self.reader.read(into) {
+        match retried_read(&mut self.reader, into) {
             Ok(count) => Ok(count),
             Err(_) => Err(self.faults.fail()),
         }
@@ -41,7 +43,8 @@ impl<R: Read + Drop> Source for StdSource<R> {
 }
 
 /// The standard output of a runtime as a sink: each piece is written and flushed. It tells no bytes, and counts each
-/// error as a fault, and also where nothing of a piece was taken.
+/// error as a fault, and also where nothing of a piece was taken; a write that a signal interrupts is tried again, 1,000
+/// times at most in all.
 #[derive(Drop)]
 pub struct StdSink<'a, R: Print> {
     rt: &'a R,
@@ -67,7 +70,7 @@ impl<R: Print> Sink for StdSink<'_, R> {
 
     fn write(&mut self, bytes: &[u8]) -> Result<usize, Trouble> {
         let mut out = io::writer(self.rt);
-        let written = out.write(bytes);
+        let written = retried_write(&mut out, bytes);
         let flushed = out.flush();
         if let Ok(count) = written
             && flushed.is_ok()

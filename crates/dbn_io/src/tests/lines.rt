@@ -126,3 +126,15 @@ fn lines_before_a_failure_are_given(rt: HostRuntime) -> Result<(), Fail> {
     assert!(rt; lines.ended());
     Ok(())
 }
+
+#[test]
+fn a_source_is_left_alone_after_its_end(rt: HostRuntime) -> Result<(), Fail> {
+    let alloc = rt.alloc();
+    let mut from = source(alloc, b"fire go", [2].as_slice())?;
+    let mut lines = Lines::new(alloc, 100)?;
+    let given = answer(alloc, &mut lines, &mut from)?;
+    assert_eq!(rt; shown(&given), b"fire go".as_slice());
+    let given = answer(alloc, &mut lines, &mut from)?;
+    assert_eq!(rt; shown(&given), b"<end>".as_slice());
+    Ok(())
+}

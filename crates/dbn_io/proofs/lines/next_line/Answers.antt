@@ -10,7 +10,7 @@ pub returns-then-is_whole-clause-line : goal.returns-then-is_whole-clause-line
 returns-then-is_whole-clause-line g c =
     let part = rw c.if-is_whole.true at c.in-Ok.ensures.moved in
     line-found _ _ _ _ c.args.pieces.now c.pieces.pieces c.take_part.new.pieces (g.S.Source.left c.args.source.now) (g.S.Source.left c.pieces.source)
-    part.0 c.finish.result c.pieces.invariant.read part.1 c.take_part.ensures.unread part.2 c.finish.ensures.line c.finish.ensures.some
+    part.0 c.finish.result c.pieces.invariant.read part.1 c.take_part.ensures.unread (c.take_part.ensures.at_end ∙ c.pieces.invariant.going) part.2 c.finish.ensures.line c.finish.ensures.some
 
 pub returns-in-Err-fill-clause-lost : goal.returns-in-Err-fill-clause-lost
 returns-in-Err-fill-clause-lost g c =
@@ -37,5 +37,6 @@ pieces-preserved g c =
       first = λ has. absurd (feed-breaks c.args.pieces.now.held has
           (subst (λ (l : List ℕ). Unbroken l) (sym part.1.0 ∙ (c.pieces.invariant.first has).1) part.2.unbroken));
       told = search rules;
-      later = search rules;
+      calm = search rules;
+      going = filled.3;
     }
