@@ -114,12 +114,12 @@ impl<'a, R: Files<File = File>> FileDisk<'a, R> {
         ensures { self.new ≡ self.old }
     {
         self.look()?;
-        if let Some(file) = self.opened.file() {
-            file.sync_data()?;
+        match &self.opened {
+            Opened::NotYet | Opened::Missing => return Ok(()),
+            Opened::ReadOnly(file) => return opened::sync_read_only(file),
+            Opened::Writable(file) => file.sync_data()?,
         }
-        if let Opened::Writable(_) = self.opened
-            && !self.folder_is_synced
-        {
+        if !self.folder_is_synced {
             fs::open(self.rt, folder_of(self.name))?.sync_all()?;
             self.folder_is_synced = true;
         }

@@ -106,3 +106,11 @@ pub fn cut(file: &File, to: u64) -> io::Result<()> {
     }
     Ok(())
 }
+
+/// Syncs a file that may only be read. A medium that is never written knows no sync, and all of it is stable.
+pub fn sync_read_only(file: &File) -> io::Result<()> {
+    match file.sync_data() {
+        Err(error) if error.kind() == ErrorKind::InvalidInput => Ok(()),
+        answer => answer,
+    }
+}

@@ -3,6 +3,8 @@
 use crate::{ClosedDisk, Disk, FileDisk, ImagePick, MemDisk};
 use dbn_io::{Bytes, Calls, Trouble};
 use std::alloc::Global;
+use std::fs::{self, Permissions};
+use std::os::unix::fs::PermissionsExt;
 use std::test::Fail;
 
 fn memory(alloc: Global, bytes: &[u8], fails: &[u64]) -> Result<MemDisk, Fail> {
@@ -113,5 +115,18 @@ fn one_disk_at_a_time_has_a_file(rt: HostRuntime) -> Result<(), Fail> {
     drop(first);
     assert_eq!(rt; third.write_at(0, b"x"), Err(Trouble::Failed));
     assert!(rt; holds(&mut second, b"abc"));
+    Ok(())
+}
+
+// Root may write it all the same.
+#[test]
+fn a_file_that_may_only_be_read_is_read(rt: HostRuntime) -> Result<(), Fail> {
+    let mut disk = FileDisk::new(&rt, "kept.bin");
+    assert_eq!(rt; disk.write_at(0, b"abc"), Ok(()));
+    drop(disk);
+    fs::set_permissions(&rt, "kept.bin", Permissions::from_mode(0o444))?;
+    let mut kept = FileDisk::new(&rt, "kept.bin");
+    assert!(rt; holds(&mut kept, b"abc"));
+    assert_eq!(rt; kept.sync(), Ok(()));
     Ok(())
 }

@@ -7,7 +7,7 @@ use Rattle.dbn_disk.specs.Disk.{DiskState, Torn, Cut, Follows, Only, Still, Elap
 use Rattle.dbn_disk.specs.SoundLaws.{length-padded}
 use Rattle.dbn_disk.proofs.Going.{started, called, leaves_on, leaves_more, after_still}
 use Rattle.dbn_journal.specs.Records.{open_gate, IsShutAt}
-use Rattle.dbn_journal.specs.Making.{has_shut_first, closed, filled, opened, IsClosing, IsOpening, is_open, IsSameOrNotOpen}
+use Rattle.dbn_journal.specs.Making.{has_shut_first, closed, filled, opened, IsClosing, IsOpening, IsSameOrNotOpen}
 use Rattle.dbn_journal.proofs.Appends.{shut_stays}
 
 -- a torn write of the first byte leaves the others

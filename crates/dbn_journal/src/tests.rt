@@ -3,10 +3,11 @@
 ghost use Rattle.std.specs.Prelude.{◌≡◌, ◌+◌, ◌≤◌, [], ◌∷◌, ◌++◌, length, IfOk};
 ghost use Rattle.dbn_disk.specs.MemState.{fresh};
 
-use crate::{Gate, append, close_first, fill, gate_at, open_first};
+use crate::{Gate, append, close_first, fill, gate_at, open_first, read_some, write_through};
 use dbn_disk::{Disk, ImagePick, MemDisk};
 use dbn_io::{Bytes, Calls, Trouble};
 use std::alloc::{AllocError, Global};
+use std::mem;
 use std::test::Fail;
 
 // A store of a net with one token, up to the gate at place 82: an open first byte, the mark, the generation and two more
@@ -257,5 +258,81 @@ fn a_file_is_made_where_there_was_none(rt: HostRuntime) -> Result<(), Fail> {
         let wanted = if is_open { Left::New } else { Left::NoStore };
         assert!(rt; both_leave(alloc, &disk, moment, loose, &[], wanted)?);
     }
+    Ok(())
+}
+
+// A disk that tells nothing and counts the calls on it. What is read is always the front of a record with a body of one
+// byte.
+#[derive(Drop)]
+struct CountingDisk {
+    calls: u64,
+}
+
+impl CountingDisk {
+    fn count(&mut self) {
+        self.calls = self.calls.saturating_add(1);
+    }
+
+    // How many calls there were since this was asked last.
+    fn take_calls(&mut self) -> u64 {
+        mem::take(&mut self.calls)
+    }
+}
+
+impl Disk for CountingDisk {
+    ghost use Rattle.dbn_disk.specs.Untold.{untold_state};
+
+    ghost state = { λ disk. untold_state 0 };
+
+    ghost sound = { λ disk honest. cc };
+
+    fn len(&mut self) -> Result<u64, Trouble> {
+        self.count();
+        Ok(99)
+    }
+
+    fn read(&mut self, at: u64, into: &mut [u8]) -> Result<usize, Trouble> {
+        self.count();
+        let count = into.len().min(5);
+        into[..count].copy_from_slice(&RECORD_OF_ONE[..count]);
+        Ok(count)
+    }
+
+    fn write_at(&mut self, at: u64, bytes: &[u8]) -> Result<(), Trouble> {
+        self.count();
+        Ok(())
+    }
+
+    fn cut(&mut self, to: u64) -> Result<(), Trouble> {
+        self.count();
+        Ok(())
+    }
+
+    fn sync(&mut self) -> Result<(), Trouble> {
+        self.count();
+        Ok(())
+    }
+}
+
+const RECORD_OF_ONE: &[u8; 5] = b"\xdb\0\0\0\x01";
+
+#[test]
+fn each_call_makes_four_device_calls_at_most(rt: HostRuntime) -> Result<(), Fail> {
+    let alloc = rt.alloc();
+    let mut disk = CountingDisk { calls: 0 };
+    assert!(rt; matches!(gate_at(alloc, &mut disk, 0), Ok(Gate::Held { .. })));
+    assert_eq!(rt; disk.take_calls(), 3);
+    assert!(rt; read_some(alloc, &mut disk, 0, 5).is_ok());
+    assert_eq!(rt; disk.take_calls(), 1);
+    assert_eq!(rt; write_through(&mut disk, 0, &[1]), Ok(()));
+    assert_eq!(rt; disk.take_calls(), 2);
+    assert_eq!(rt; append(alloc, &mut disk, 7, &[1]), Ok(13));
+    assert_eq!(rt; disk.take_calls(), 4);
+    assert_eq!(rt; close_first(alloc, &mut disk), Ok(()));
+    assert_eq!(rt; disk.take_calls(), 3);
+    assert_eq!(rt; fill(alloc, &mut disk, &[1]), Ok(()));
+    assert_eq!(rt; disk.take_calls(), 3);
+    assert_eq!(rt; open_first(alloc, &mut disk), Ok(()));
+    assert_eq!(rt; disk.take_calls(), 2);
     Ok(())
 }

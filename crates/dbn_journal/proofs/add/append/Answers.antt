@@ -1,7 +1,5 @@
-use Rattle.std.proofs.Common.{◌≡◌, ◌+◌, ◌^◌, ◌<◌, List, ℕ, length, Some, IsTrue, subst, sym, ◌∙◌}
-use Rattle.dbn_disk.specs.Disk.{DiskState, LeavesOnly}
-use Rattle.dbn_disk.proofs.Going.{leaves_more}
-use Rattle.dbn_journal.specs.Records.{records_from, appended, AgreeUpTo, IsShutAt, IsBeforeOrAfter, StandsForEither}
+use Rattle.std.proofs.Common.{◌≡◌, Some, IsTrue, subst, sym, ◌∙◌}
+use Rattle.dbn_journal.specs.Records.{appended}
 use Rattle.dbn_journal.proofs.Appends.{staged, at_start, with_staged, with_gate, staged_content, opened_content}
 use Rattle.dbn_journal.proofs.Walks.{leaves_records}
 use Rattle.dbn_journal.proofs.add.append.Goals as goal
