@@ -1,16 +1,15 @@
 -- Reading on: from what one answer says to what all of them say.
-use Rattle.std.proofs.Common.{◌≡◌, ℕ, ◌+◌, ◌-◌, ◌<◌, ◌≤◌, Bool, true, false, IsTrue, IsFalse, List, [], ◌∷◌, ◌++◌, length, take, Option, None, Some, Result, Ok, Err, refl, sym, ap, subst, ◌∙◌, arith, append_assoc, append-nil, length-append}
+use Rattle.std.proofs.Common.{◌≡◌, ℕ, ◌+◌, ◌-◌, ◌<◌, ◌≤◌, Bool, true, false, IsTrue, IsFalse, List, [], ◌++◌, length, take, Option, None, Some, Result, Ok, Err, refl, sym, ap, subst, ◌∙◌, arith, append-nil, length-append}
 use Rattle.std.specs.Prelude.{IfOk, IfErr}
 use Rattle.std.specs.Io.KnownBytes.{Consumes, Keeps, IsAtEnd, prepend_known}
-use Rattle.std.proofs.KnownBytes.{Consumes-trans, Consumes-kept}
+use Rattle.std.proofs.KnownBytes.{Consumes-trans}
 use Rattle.std.proofs.lemmas.List.{take-append-le}
 use Rattle.std.proofs.Math.Seq.{take-append-add}
 use Rattle.dbn_model.specs.Lines as text
 use Rattle.dbn_model.proofs.LastPartLaws.{lines-append, whole-append, part-append, whole-none, due-all, due-over, due-part}
 use Rattle.dbn_io.proofs.ReadingLaws.{held-first}
-use Rattle.dbn_io.specs.Stops.{MayTake}
-use Rattle.dbn_io.specs.Window.{Window, allowed, to_come, Unbroken}
-use Rattle.dbn_io.specs.Reading.{Reading, Gives, Holds, Loses, MayLose, HasRead, HasReadAll, HasStopped, AreFirst, AreUpTo, GivesNext, given, is_end}
+use Rattle.dbn_io.specs.Window.{Window, allowed, to_come}
+use Rattle.dbn_io.specs.Reading.{Reading, Gives, Holds, Loses, MayLose, HasRead, HasReadAll, HasStopped, AreFirst, GivesNext, given}
 use Rattle.dbn_io.specs.declared.lines.Line.{Line}
 use Rattle.dbn_io.specs.declared.lines.Line.TheVariants.{Bytes, Long, End}
 use Rattle.dbn_io.specs.declared.take.ReadStop.{ReadStop}

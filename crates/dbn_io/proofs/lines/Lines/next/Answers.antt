@@ -1,4 +1,4 @@
-use Rattle.std.proofs.Common.{◌≡◌, IsFalse, rules, refl, sym, ap, ◌∙◌}
+use Rattle.std.proofs.Common.{IsFalse, rules, refl, sym, ◌∙◌}
 use Rattle.dbn_io.proofs.RunLaws.{given-next, stopped-next}
 use Rattle.dbn_io.proofs.lines.Lines.next.Goals as goal
 
