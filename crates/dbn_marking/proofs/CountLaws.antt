@@ -1,8 +1,6 @@
 -- Counted rows after a change: they stay counted, and the count of each row.
 use Rattle.std.proofs.Common.{◌≡◌, ℕ, zero, suc, ◌∷◌, ◌++◌, append_assoc, inl, inr, replicate, ◌+◌, ◌-◌, ◌<◌, ◌≤◌, ◌^◌, Bool, true, false, cond, eqb, List, refl, sym, ap, ◌∙◌, subst, Option, Some, None, Result, Ok, Err, arith, OnOk, OnErr, if◌then◌else◌, ◌&&◌, [], length, set, ⊎_elim, get_or-set_same, get_or-set_other}
 use Rattle.std.specs.declared.cmp.Ordering.{Ordering}
-use Rattle.std.specs.declared.cmp.Ordering.TheVariants.{Less, Greater}
-use Rattle.std.specs.Ordering.{ordering_reverse, match_ordering}
 use Rattle.std.specs.Cmp.{IsTotalOrder}
 use Rattle.std.specs.Option.{unwrap_or, IfSome, IsSome}
 use Rattle.std.specs.List.Sorted.{IsStrictlySortedBy}
@@ -10,9 +8,8 @@ use Rattle.std.specs.Map.{lookup, remove_entry, set_value, keys_of}
 use Rattle.std.specs.BTreeMap.{is_at, insert_entry}
 use Rattle.std.proofs.lemmas.Bool.{eqb-true, eqb-false, cond_both, cases_eq, eq-eqb, ne_eqb}
 use Rattle.dbn_value.proofs.EntryLaws.{sorted_insert_entry, sorted_remove_entry, sorted_set_value, lookup_insert_entry, lookup_remove_entry, lookup_set_value}
-use Rattle.dbn_value.specs.Members.{In}
-use Rattle.dbn_value.proofs.AscendingLaws.{sorted_nil, head_below}
-use Rattle.std.proofs.lemmas.Map.Keys.{sorted_tail}
+use Rattle.dbn_value.proofs.AscendingLaws.{sorted_nil}
+use Rattle.dbn_value.proofs.AppendLaws.{append_entry, past_those_before}
 use Rattle.dbn_marking.specs.Counts.{IsCounted, IsMarking, place_of, count_of, added, taken, count_at, with_tokens, without_tokens}
 
 -- a count that the place keeps
@@ -166,22 +163,14 @@ module _ {K : Type 0} {R : K → K → Ordering} (o : IsTotalOrder R) where
 -- ---- copies
 
 module _ {K X : Type 0} {R : K → K → Ordering} (o : IsTotalOrder R) where
-  -- a key behind all others comes last
-  insert_entry_last : (es rest : List (K × X)) (k : K) (v : X) → IsStrictlySortedBy R (keys_of (es ++ (k, v) ∷ rest)) → insert_entry R es k v ≡ es ++ (k, v) ∷ []
-  insert_entry_last [] rest k v s = refl
-  insert_entry_last (e ∷ es) rest k v s =
-      let below : R e.0 k ≡ Less = head_below R e.0 (keys_of (es ++ (k, v) ∷ rest)) k s (key_there es) in
-      let above : R k e.0 ≡ Greater = o.antisymm k e.0 ∙ ap ordering_reverse below in
-      ap (λ r. match_ordering r ((k, v) ∷ e ∷ es) ((e.0, v) ∷ es) (e ∷ insert_entry R es k v)) above
-      ∙ ap (λ l. e ∷ l) (insert_entry_last es rest k v (sorted_tail R e.0 (keys_of (es ++ (k, v) ∷ rest)) s))
-    where
-      key_there : (before : List (K × X)) → In k (keys_of (before ++ (k, v) ∷ rest))
-      key_there [] = inl refl
-      key_there (f ∷ before) = inr (key_there before)
+  keys_between : (es rest : List (K × X)) (k : K) (v : X) → keys_of (es ++ (k, v) ∷ rest) ≡ keys_of es ++ k ∷ keys_of rest
+  keys_between [] rest k v = refl
+  keys_between (e ∷ es) rest k v = ap (λ keys. e.0 ∷ keys) (keys_between es rest k v)
 
   -- one more entry is copied
   pub copied_more : (copied rest whole new : List (K × X)) (k : K) (v : X) → IsStrictlySortedBy R (keys_of whole) → copied ++ (k, v) ∷ rest ≡ whole
       → new ≡ insert_entry R copied k v → new ++ rest ≡ whole
   copied_more copied rest whole new k v s so_far is =
-      let last = insert_entry_last copied rest k v (subst (λ es. IsStrictlySortedBy R (keys_of es)) (sym so_far) s) in
+      let ascends = subst (IsStrictlySortedBy R) (sym (ap keys_of so_far) ∙ keys_between copied rest k v) s in
+      let last = append_entry R k v copied (past_those_before o (keys_of copied) k (keys_of rest) ascends) in
       ap (λ es. es ++ rest) (is ∙ last) ∙ append_assoc copied ((k, v) ∷ []) rest ∙ so_far
