@@ -2,7 +2,7 @@
 use Rattle.std.proofs.Common.{◌≡◌, ℕ, ◌<◌, ◌≢◌, zero, suc, Bool, true, false, cond, not, ◌&&◌, ◌||◌, List, [], ◌∷◌, ◌++◌, map, refl, sym, ap, ◌∙◌, subst, inl, inr, ⊎_elim, length, get_or, set, arith, get_or-set_same, get_or-set_other, length-set, replicate, take, append_assoc, ◌+◌, append-nil, drop, add-one, drop-cons, if◌then◌else◌, Result, Ok, Err, OnErr, OnOk}
 use Rattle.std.specs.declared.cmp.Ordering.{Ordering}
 use Rattle.std.specs.declared.cmp.Ordering.TheVariants.{Less, Equal, Greater}
-use Rattle.std.specs.Ordering.{eq_by_cmp, is_eq, nat_cmp, ordering_then, ordering_reverse, match_ordering}
+use Rattle.std.specs.Ordering.{eq_by_cmp, is_eq, nat_cmp, ordering_then}
 use Rattle.std.specs.Cmp.{IsTotalOrder, nat_cmp_total, tied_itself, eq_by_cmp_equiv}
 use Rattle.std.specs.Cmp.Lexicographic.{slice_cmp, lists_total}
 use Rattle.std.specs.FinMap.{IsAntisymmetric, nat_cmp-IsAntisymmetric, slice_cmp-IsAntisymmetric}
@@ -20,7 +20,8 @@ use Rattle.std.proofs.lemmas.Map.Keys.{sorted_tail}
 use Rattle.std.proofs.lemmas.Map.Views.{any-filter_same}
 use Rattle.dbn_value.specs.Members.{In}
 use Rattle.dbn_value.specs.Ascending.{ascending}
-use Rattle.dbn_value.proofs.MemberLaws.{in_any, in_filter, in_append, append_right, in_map, all_elements_at, all_elements_from}
+use Rattle.dbn_value.proofs.MemberLaws.{in_any, in_filter, in_append, in_map, all_elements_at, all_elements_from}
+use Rattle.dbn_value.proofs.AppendLaws.{append_key, past_those_before}
 use Rattle.dbn_value.proofs.AscendingLaws.{sorted_nil, sorted_insert_key, sorted_remove_key, sorted_ascending, any_insert_key, any_remove_key, any_ascending, filter_ascending, ascending_push, in_ascending, head_below, same_tests, is_one}
 use Rattle.dbn_instance.specs.declared.fact.Fact.{Fact}
 use Rattle.dbn_instance.specs.declared.fact.Change.{Change}
@@ -147,19 +148,10 @@ module _ {C : Type 0} {cmp : C → C → Ordering} (o : IsTotalOrder cmp) where
 -- ---- copies
 
 module _ {K : Type 0} {R : K → K → Ordering} (o : IsTotalOrder R) where
-  -- a key behind all others comes last
-  insert_key_last : (keys rest : List K) (k : K) → IsStrictlySortedBy R (keys ++ k ∷ rest) → insert_key R keys k ≡ keys ++ k ∷ []
-  insert_key_last [] rest k s = refl
-  insert_key_last (x ∷ keys) rest k s =
-      let below : R x k ≡ Less = head_below R x (keys ++ k ∷ rest) k s (append_right k keys (k ∷ rest) (inl refl)) in
-      let above : R k x ≡ Greater = o.antisymm k x ∙ ap ordering_reverse below in
-      ap (λ r. match_ordering r (k ∷ x ∷ keys) (x ∷ keys) (x ∷ insert_key R keys k)) above
-      ∙ ap (λ l. x ∷ l) (insert_key_last keys rest k (sorted_tail R x (keys ++ k ∷ rest) s))
-
   -- one more key is copied
   pub copied_more : (copied rest whole new : List K) (k : K) → IsStrictlySortedBy R whole → copied ++ k ∷ rest ≡ whole → new ≡ insert_key R copied k → new ++ rest ≡ whole
   copied_more copied rest whole new k s so_far is =
-      let last = insert_key_last copied rest k (subst (IsStrictlySortedBy R) (sym so_far) s) in
+      let last = append_key R k copied (past_those_before o copied k rest (subst (IsStrictlySortedBy R) (sym so_far) s)) in
       ap (λ keys. keys ++ rest) (is ∙ last) ∙ append_assoc copied (k ∷ []) rest ∙ so_far
 
 -- ---- facts that are not there, one after the other

@@ -86,7 +86,7 @@ impl<C: Cell> Instance<C> {
     }
 
     /// Adds the fact, unless it is there, and tells whether it is new. After want of memory nothing changed.
-    pub fn insert(&mut self, fact: Fact<C>) -> Result<bool, AllocError>
+    pub fn insert(&mut self, _alloc: Global, fact: Fact<C>) -> Result<bool, AllocError>
         requires { fact.rel < length self.old }
         ensures ok { OnOk result (self.new ≡ with_fact C.cmp self.old fact) }
         ensures new { IfOk result (λ new. new ≡ not (has_fact C.cmp self.old fact)) }

@@ -179,11 +179,11 @@ fn facts_come_and_go(rt: HostRuntime) -> Result<(), Fail> {
 }
 
 /// Adds the fact, where there is its relation, and tells whether it is new.
-fn insert<C: Cell>(instance: &mut Instance<C>, fact: Fact<C>) -> Result<bool, Fail> {
+fn insert<C: Cell>(alloc: Global, instance: &mut Instance<C>, fact: Fact<C>) -> Result<bool, Fail> {
     if fact.rel >= instance.relations() {
         return Err(Fail::new("no such relation"));
     }
-    Ok(instance.insert(fact)?)
+    Ok(instance.insert(alloc, fact)?)
 }
 
 #[test]
@@ -194,8 +194,8 @@ fn a_copy_is_an_instance_of_its_own(rt: HostRuntime) -> Result<(), Fail> {
     let copy = instance.copy_in(alloc)?;
     let before = facts_text(alloc, &instance)?;
     instance.add_relation(alloc)?;
-    assert!(rt; insert(&mut instance, fact(alloc, RESP, &["#0", "\"Ann\""])?)?);
-    assert!(rt; !insert(&mut instance, fact(alloc, RESP, &["#0", "\"Ann\""])?)?);
+    assert!(rt; insert(alloc, &mut instance, fact(alloc, RESP, &["#0", "\"Ann\""])?)?);
+    assert!(rt; !insert(alloc, &mut instance, fact(alloc, RESP, &["#0", "\"Ann\""])?)?);
     assert!(rt; copy.relations() == 2 && instance.relations() == 3);
     assert!(rt; instance.has_row(RESP, &fact(alloc, RESP, &["#0", "\"Ann\""])?.row));
     assert_eq!(rt; instance.row_set(TICKET).len(), 2);
