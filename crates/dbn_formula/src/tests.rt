@@ -220,10 +220,19 @@ fn is_shown(alloc: Global, f: &Formula, text: &[u8]) -> Result<bool, AllocError>
 }
 
 #[test]
-fn every_kind_is_put_into_its_forms(rt: HostRuntime) -> Result<(), ValueFault> {
+fn every_kind_is_copied_and_renamed(rt: HostRuntime) -> Result<(), ValueFault> {
     let alloc = rt.alloc();
     let f = every_kind(alloc)?.copy_in(alloc)?;
     assert!(rt; is_shown(alloc, &f, b"&(==!e0a<|({&(a))iaaf0ia#a)".as_slice())?);
+    let apart = rename_apart(alloc, &f)?;
+    assert!(rt; is_shown(alloc, &apart, b"&(==!e1a<|({&(a))iaaf2ia#a)".as_slice())?);
+    Ok(())
+}
+
+#[test]
+fn every_kind_has_a_normal_form(rt: HostRuntime) -> Result<(), ValueFault> {
+    let alloc = rt.alloc();
+    let f = every_kind(alloc)?;
     let form = normal(alloc, &f)?;
     assert!(rt;
         is_shown(
@@ -240,8 +249,6 @@ fn every_kind_is_put_into_its_forms(rt: HostRuntime) -> Result<(), ValueFault> {
             b"|(##e0a}&(>|(!a))&(a!a)e0&(a=)!a)".as_slice()
         )?
     );
-    let apart = rename_apart(alloc, &f)?;
-    assert!(rt; is_shown(alloc, &apart, b"&(==!e1a<|({&(a))iaaf2ia#a)".as_slice())?);
     Ok(())
 }
 
@@ -252,6 +259,13 @@ fn parts_that_wait_are_taken_later(rt: HostRuntime) -> Result<(), ValueFault> {
     let nothing: Vars = Items::new(alloc);
     let ordered = arrange(alloc, &f, &nothing)?;
     assert!(rt; is_shown(alloc, &ordered, b"&(a==!e0a<|({&(a))iaaf0ia#)".as_slice())?);
+    Ok(())
+}
+
+#[test]
+fn every_kind_can_be_solved(rt: HostRuntime) -> Result<(), ValueFault> {
+    let alloc = rt.alloc();
+    let f = every_kind(alloc)?;
     let solved = solvable(alloc, &f)?;
     assert!(rt;
         is_shown(
@@ -260,8 +274,9 @@ fn parts_that_wait_are_taken_later(rt: HostRuntime) -> Result<(), ValueFault> {
             b"&(a==!e1a<|({&(a))|(!aa)!e2&(a=))".as_slice()
         )?
     );
+    let nothing: Vars = Items::new(alloc);
+    assert!(rt; safe(alloc, &solved, &nothing) == Ok(true));
     assert!(rt; safe(alloc, &f, &nothing) == Ok(false));
-    assert!(rt; safe(alloc, &rename_apart(alloc, &normal(alloc, &f)?)?, &nothing) == Ok(true));
     Ok(())
 }
 
@@ -286,13 +301,33 @@ fn every_kind_is_well_typed(rt: HostRuntime) -> Result<(), ValueFault> {
     assert!(rt; type_check(alloc, &f, &scope, &rels) == Ok(()));
     assert!(rt; arity_fits(&f, &rels));
     assert!(rt; types_fit(&f, scope.as_slice(), &rels));
+    Ok(())
+}
+
+#[test]
+fn free_variables_are_bound_by_the_scope(rt: HostRuntime) -> Result<(), ValueFault> {
+    let alloc = rt.alloc();
+    let f = every_kind(alloc)?;
+    let scope = free_ints(alloc)?;
     assert!(rt; all_bound(alloc, &f, scope.as_slice()) == Ok(true));
     let fewer = typed(alloc, b"abcdefghv".as_slice(), ColType::Int)?;
     assert!(rt; all_bound(alloc, &f, fewer.as_slice()) == Ok(false));
-    let terms: [Term; 2] = [term(alloc, b'a')?, int(7)];
-    let types = [ColType::Int, ColType::Text];
-    assert!(rt; !terms_fit(terms.as_slice(), types.as_slice(), scope.as_slice()));
-    assert!(rt; binds(scope.as_slice(), &var(alloc, b'w')?));
+    let last = var(alloc, b'w')?;
+    assert!(rt; binds(scope.as_slice(), &last) && !binds(fewer.as_slice(), &last));
+    Ok(())
+}
+
+#[test]
+fn a_term_has_the_type_of_its_column(rt: HostRuntime) -> Result<(), ValueFault> {
+    let alloc = rt.alloc();
+    let scope = free_ints(alloc)?;
+    let mut terms: Terms = Items::new(alloc);
+    terms.push(term(alloc, b'a')?)?;
+    terms.push(int(7))?;
+    let ints = [ColType::Int, ColType::Int];
+    assert!(rt; terms_fit(terms.as_slice(), ints.as_slice(), scope.as_slice()));
+    let mixed = [ColType::Int, ColType::Text];
+    assert!(rt; !terms_fit(terms.as_slice(), mixed.as_slice(), scope.as_slice()));
     Ok(())
 }
 
@@ -304,12 +339,20 @@ fn what_every_kind_writes(rt: HostRuntime) -> Result<(), ValueFault> {
     assert!(rt; found.as_slice().len() == 10);
     let values = constants(alloc, &f)?;
     assert!(rt; values.as_slice() == [Value::Int(5), Value::Int(7)].as_slice());
+    assert!(rt; nests_within(&f, 5) && !nests_within(&f, 4));
+    assert!(rt; relations_below(&f, 3) && !relations_below(&f, 2));
+    Ok(())
+}
+
+#[test]
+fn variables_stand_once_and_unmarked(rt: HostRuntime) -> Result<(), ValueFault> {
+    let alloc = rt.alloc();
+    let f = every_kind(alloc)?;
     assert!(rt; distinct(alloc, &f) == Ok(true));
     let twice = typed(alloc, b"aba".as_slice(), ColType::Int)?;
     assert!(rt; distinct_vars(alloc, twice.as_slice()) == Ok(false));
-    assert!(rt; nests_within(&f, 5) && !nests_within(&f, 4));
-    assert!(rt; relations_below(&f, 3) && !relations_below(&f, 2));
-    assert!(rt; is_unmarked(&f) && !is_unmarked(&rename_apart(alloc, &f)?));
+    let apart = rename_apart(alloc, &f)?;
+    assert!(rt; is_unmarked(&f) && !is_unmarked(&apart));
     Ok(())
 }
 
