@@ -1,6 +1,10 @@
 //! What no clause says: that calls succeed, and what texts from outside are.
 
-use crate::{Item, SexpFault, SexpKind, print, read_all, text_is_read_again};
+use crate::{
+    Item, SexpFault, SexpKind, constant_in, list_in, print, print_line, read_all,
+    text_is_read_again, word_in,
+};
+use dbn_value::Value;
 use std::alloc::Global;
 use std::test::Fail;
 
@@ -13,11 +17,12 @@ fn prints_as(alloc: Global, text: &[u8], printed: &[u8]) -> Result<bool, Fail> {
 }
 
 // The fault of a text.
-fn fault_of(alloc: Global, text: &[u8]) -> Option<(u64, SexpKind)> {
-    match read_all(alloc, text, 64) {
-        Err(SexpFault::Bad { line, kind }) => Some((line, kind)),
-        _ => None,
-    }
+fn fault_of(alloc: Global, text: &[u8]) -> Option<SexpFault> {
+    read_all(alloc, text, 64).err()
+}
+
+fn bad(line: u64, kind: SexpKind) -> Option<SexpFault> {
+    Some(SexpFault::Bad { line, kind })
 }
 
 // So many lists, each inside the one before.
@@ -63,11 +68,7 @@ fn the_first_fault_is_told(rt: HostRuntime) {
         (b"#4611686018427387904", 1, SexpKind::BadToken),
     ];
     for (text, line, kind) in rows {
-        assert_eq!(rt;
-            fault_of(rt.alloc(), text),
-            Some((line, kind)),
-            "at {text:?}"
-        );
+        assert_eq!(rt; fault_of(rt.alloc(), text), bad(line, kind), "at {text:?}");
     }
 }
 
@@ -77,12 +78,35 @@ fn nesting_ends_at_the_depth(rt: HostRuntime) -> Result<(), Fail> {
     let mut deepest = nest(alloc, 64)?;
     assert_eq!(rt;
         fault_of(alloc, nest(alloc, 65)?.as_slice()),
-        Some((1, SexpKind::Deep))
+        bad(1, SexpKind::Deep)
     );
     assert_eq!(rt; fault_of(alloc, deepest.as_slice()), None);
     let text = nest(alloc, 64)?;
     deepest.push(b'\n')?;
     assert!(rt; prints_as(alloc, text.as_slice(), deepest.as_slice())?);
+    Ok(())
+}
+
+#[test]
+fn an_item_is_taken_apart_and_printed_by_itself(rt: HostRuntime) -> Result<(), Fail> {
+    let alloc = rt.alloc();
+    let list = read_all(alloc, b"(place 7 ())", 64)?;
+    let mut out = Vec::from_slice(alloc, b"; ")?;
+    for one in list.as_slice() {
+        assert!(rt; word_in(one).is_none() && constant_in(one).is_none());
+        match list_in(one) {
+            Some([name, seven, none]) => {
+                assert!(rt;
+                    word_in(name).is_some_and(|name| name.as_bytes() == b"place".as_slice())
+                );
+                assert!(rt; matches!(constant_in(seven), Some(Value::Int(7))));
+                assert!(rt; matches!(list_in(none), Some([])));
+            }
+            _ => assert!(rt; false),
+        }
+        print_line(alloc, &mut out, one)?;
+    }
+    assert!(rt; out.as_slice() == b"; (place 7 ())\n".as_slice());
     Ok(())
 }
 
