@@ -233,7 +233,10 @@ fn columns_of_rows_are_picked(rt: HostRuntime) -> Result<(), Fail> {
 #[test]
 fn rows_are_joined_and_taken_apart(rt: HostRuntime) -> Result<(), Fail> {
     let alloc = rt.alloc();
-    let (left, right) = (row(alloc)?, pick(alloc, &row(alloc)?, &[2])?);
+    let (left, other) = (row(alloc)?, row(alloc)?);
+    assert_eq!(rt; left.len(), 3);
+    assert_eq!(rt; other.len(), 3);
+    let right = pick(alloc, &other, &[2])?;
     let both = join_rows(alloc, &left, &right)?;
     assert_eq!(rt; both, pick(alloc, &left, &[0, 1, 2, 2])?);
     assert_eq!(rt; both.get(3), right.get(0));
