@@ -1,15 +1,10 @@
 -- What a pool, the list of the texts that were put, gives values and cells.
-use Rattle.std.specs.Prelude.{◌≡◌, ℕ, Bool, true, false, ◌<◌, List, [], ◌∷◌, ◌++◌, length, get_or, position, Option, Some, None, if◌then◌else◌, refl}
-use Rattle.std.proofs.Common.{sym, ap}
+use Rattle.std.specs.Prelude.{ℕ, List, [], ◌∷◌, ◌++◌, get_or, position, Option, Some, None, if◌then◌else◌}
 use Rattle.std.specs.List.{list_any}
 use Rattle.std.specs.Option.{option_map}
 use Rattle.std.specs.Str.{bytes_eq}
-use Rattle.std.proofs.lemmas.List.Quantifiers.{position-Some}
-use Rattle.dbn_value.specs.Coding.{Extends, Decodes}
-use Rattle.dbn_value.specs.Order.{value_type, value_int}
 use Rattle.dbn_value.specs.declared.value.Value.{Value}
 use Rattle.dbn_value.specs.declared.value.Value.TheVariants as value
-use Rattle.dbn_pool.specs.Cells.{cell_type, cell_int}
 use Rattle.dbn_pool.specs.declared.cell.SymCell.{SymCell}
 use Rattle.dbn_pool.specs.declared.cell.SymCell.TheVariants.{Int, Id, Sym}
 
