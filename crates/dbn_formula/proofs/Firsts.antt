@@ -1,12 +1,11 @@
 -- The first occurrences in a list with one more variable.
-use Rattle.std.proofs.Common.{ℕ, ◌+◌, ◌<◌, length, get_or, take, ◌≡◌, Bool, true, false, cond, not, ◌||◌, List, [], ◌∷◌, ◌++◌, refl, ap, sym, ◌∙◌}
+use Rattle.std.proofs.Common.{◌≡◌, Bool, true, false, cond, not, ◌||◌, List, [], ◌∷◌, ◌++◌, refl, ap, sym, ◌∙◌}
 use Rattle.std.specs.List.{filter}
 use Rattle.std.proofs.lemmas.List.{append-nil}
 use Rattle.std.proofs.lemmas.List.Elements.{filter-append}
 use Rattle.std.proofs.lemmas.Bool.{or_left, or_right, or_from, false_from_ne_true}
-use Rattle.std.proofs.lemmas.List.{take_more}
 use Rattle.dbn_value.specs.declared.term.Var.{Var}
-use Rattle.dbn_formula.specs.Variables.{var_eq, is_in, firsts, with_first}
+use Rattle.dbn_formula.specs.Variables.{var_eq, is_in, firsts}
 use Rattle.dbn_formula.proofs.VariableLaws.{var_same, var_alike, var_turned}
 
 -- x among the others than y is x among all, unless it is y
@@ -24,7 +23,7 @@ kept x y (z ∷ zs) e =
         clash : true ≡ false → ⊥
         clash g = cc
 
-turned : (x y : Var) → var_eq y x ≡ var_eq x y
+pub turned : (x y : Var) → var_eq y x ≡ var_eq x y
 turned x y =
     elim (var_eq y x) as (λ b. var_eq y x ≡ b → b ≡ var_eq x y) [
       | true ↦ λ e. sym (var_turned y x e)
@@ -59,9 +58,3 @@ behind x y xs false false p q =
 pub firsts_more : (x : Var) (xs : List Var) → firsts (xs ++ x ∷ []) ≡ cond (is_in x (firsts xs)) (firsts xs) (firsts xs ++ x ∷ [])
 firsts_more x [] = refl
 firsts_more x (y ∷ ys) = ap (λ zs. y ∷ others y zs) (firsts_more x ys) ∙ behind x y (firsts ys) (is_in x (firsts ys)) (var_eq y x) refl refl
-
--- the first occurrences among one element more of a list
-pub firsts_step : (xs : List Var) (i : ℕ) (x : Var) → i < length xs → x ≡ get_or xs i x → firsts (take (i + 1) xs) ≡ with_first (firsts (take i xs)) x
-unfolding with_first
-firsts_step xs i x below e =
-    ap firsts (take_more xs i x below) ∙ ap (λ y. firsts (take i xs ++ y ∷ [])) (sym e) ∙ firsts_more x (take i xs)

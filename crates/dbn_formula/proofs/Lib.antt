@@ -15,6 +15,7 @@ pub mod Folds
 pub mod FreeLaws
 pub mod HoldsLaws
 pub mod Induction
+pub mod KnownLaws
 pub mod Maps
 pub mod MoreRelations
 pub mod NamingLaws
@@ -27,6 +28,7 @@ pub mod NormalLaws
 pub mod NormalMeaning
 pub mod NormalSize
 pub mod OrderOfParts
+pub mod References
 pub mod RenameApart
 pub mod RenameFree
 pub mod RenameLaws
@@ -35,8 +37,8 @@ pub mod SeenLaws
 pub mod SizeKept
 pub mod SizeLaws
 pub mod SolutionLaws
-pub mod SolveLaws
 pub mod Solved
+pub mod SolveLaws
 pub mod StaysSafe
 pub mod Trials
 pub mod Truth

@@ -4,9 +4,11 @@ pub mod Conjuncts
 pub mod Distinct
 pub mod Free
 pub mod Holds
+pub mod Known
 pub mod Naming
 pub mod Normal
 pub mod Ready
+pub mod Renewing
 pub mod Rest
 pub mod Safe
 pub mod Scope

@@ -1,29 +1,10 @@
 -- The renaming at a place of a formula as a list, from the quantifiers around the place and their variables with new marks.
-use Rattle.std.specs.Prelude.{if◌then◌else◌, Option, Some, None, [], ◌∷◌}
-use Rattle.std.specs.Borrow.{Bor}
-use Rattle.dbn_value.specs.declared.term.Var.{Var}
-use Rattle.dbn_formula.specs.Variables.{TypedVars, var_eq}
+use Rattle.std.specs.Prelude.{[]}
 use Rattle.dbn_formula.specs.Apart.{Renaming}
+use Rattle.dbn_formula.specs.Renewing.{paired}
 use Rattle.dbn_formula.specs.declared.apart.Names.{Names}
 use Rattle.dbn_formula.specs.declared.apart.Names.TheVariants.{Own, Under'}
 
--- the variables of a quantifier are entered one after the other with the new ones, the newest first
-abbrev pub paired : TypedVars → TypedVars → Renaming → Renaming
-paired [] made names = names
-paired (x ∷ vars) [] names = names
-paired (x ∷ vars) (y ∷ made) names = paired vars made ((x.0, y.0) ∷ names)
-
 abbrev pub named : Names → Renaming
 named Own = []
-named (Under' vars made p outer) = paired vars.now made.now (named outer)
-
--- what x is renamed to inside a quantifier, where it is renamed to `outside` around it: the last of the variables counts
-abbrev pub renamed_under : TypedVars → TypedVars → Var → Var → Var
-renamed_under [] made x outside = outside
-renamed_under (y ∷ vars) [] x outside = outside
-renamed_under (y ∷ vars) (new ∷ made) x outside = renamed_under vars made x (if var_eq x y.0 then new.0 else outside)
-
--- the variable that was found, or else the one outside
-abbrev pub found_or : Option (Bor Var) → Var → Var
-found_or None outside = outside
-found_or (Some found) outside = found.now
+named (Under' renewed p outer) = paired renewed.now.0 renewed.now.1 (named outer)

@@ -3,9 +3,10 @@ ghost use Rattle.std.specs.List.{flat_map};
 ghost use Rattle.std.specs.Ordering.{nat_cmp};
 ghost use Rattle.dbn_value.specs.Ascending.{ascending};
 ghost use Rattle.dbn_formula.specs.Apart.{term_marks, quantified_marks, marks, unused_from, renamed_var, renamed_term, fresh, last_mark, opened, renamed_at, last_at, renamed_all, last_all, renamed};
-ghost use Rattle.dbn_formula.specs.Naming.{named, renamed_under, found_or};
+ghost use Rattle.dbn_formula.specs.Naming.{named};
 
 use super::formula::{Formula, Formulas};
+use super::renewed::Renewed;
 use dbn_value::{Cell, ColType, CopyIn, Term, Terms, TypedVars, Var};
 use smallvec::SmallVec;
 use sqlite_items::{Boxed, Items};
@@ -14,11 +15,11 @@ use std::alloc::{AllocError, Global};
 /// Marks of variables.
 type Marks = SmallVec<u64, 8>;
 
-/// The new marks at a place of a formula: none, or for each quantifier around the place its variables and the same with their new marks, the innermost first.
+/// The new marks at a place of a formula: none, or for each quantifier around the place its variables with their new marks, the innermost first.
 #[derive(Drop)]
 enum Names<'a> {
     Own,
-    Under(&'a [(Var, ColType)], &'a [(Var, ColType)], &'a Names<'a>),
+    Under(&'a Renewed, &'a Names<'a>),
 }
 
 /// The formula with its quantified variables renamed apart: each gets a mark that no other variable of the formula has.
@@ -214,9 +215,10 @@ fn requantified<'x>(
     ensures last { OnOk result (last.new ≡ last_at used.now body.now (opened used.now vars.now last.old (named names.now)) (last_mark used.now vars.now last.old)) }
 {
     let made = fresh_vars(alloc, &*used, vars.as_slice(), last)?;
-    let inner = Names::Under(vars.as_slice(), made.as_slice(), &*names);
+    let renewed = Renewed::new(alloc, vars.as_slice(), made)?;
+    let inner = Names::Under(&renewed, &*names);
     let body = renamed_at(alloc, &*used, &*body, &inner, last)?;
-    Ok((made, Boxed::new(alloc, body)?))
+    Ok((renewed.into_new(), Boxed::new(alloc, body)?))
 }
 
 #[cycle(renamed)]
@@ -285,23 +287,9 @@ fn renamed_var<'x>(var: &'x Var, names: &'x Names<'x>) -> &'x Var
 {
     match names {
         Names::Own => var,
-        Names::Under(vars, made, outer) => match last_new(vars, made, var) {
+        Names::Under(renewed, outer) => match renewed.find(var) {
             Some(new) => new,
             None => renamed_var(&*var, &**outer),
         },
     }
-}
-
-/// The new variable for the last of the quantifier's that is `var`, if one is.
-#[tactic(auto, using(crate::proofs::NamingLaws::renamed_by_none))]
-fn last_new<'x>(vars: &[(Var, ColType)], made: &'x [(Var, ColType)], var: &Var) -> Option<&'x Var>
-    ensures { (outside : Var) → renamed_under vars.now made.now var.now outside ≡ found_or result outside }
-{
-    let mut found = None;
-    for (old, new) in vars.iter().zip(made) {
-        if var.same(&old.0) {
-            found = Some(&new.0);
-        }
-    }
-    found
 }

@@ -9,12 +9,14 @@ mod distinctness;
 mod formula;
 mod laws;
 mod normal_form;
+mod renewed;
 mod safety;
 mod safety_laws;
 #[cfg(test)]
 mod tests;
 mod typing;
 mod typing_laws;
+mod var_list;
 mod variables;
 mod written;
 
