@@ -40,6 +40,7 @@ finds_more vars made ys ns ys' ns' latest more y new k v before a b p q update x
   where
     tied : var_eq x y.0 ≡ is_eq (var_cmp k x)
     tied = ap (var_eq x) (sym p) ∙ turned k x ∙ vars_tie k x
+
     by : (c : Bool) (found : Option Var) → cond c new.0 (unwrap_or found outside) ≡ unwrap_or (cond c (Some v) found) outside
     by true found = sym q
     by false found = refl
