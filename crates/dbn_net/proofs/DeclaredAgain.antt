@@ -16,7 +16,7 @@ use Rattle.dbn_net.specs.declared.written.Clause.TheVariants.{Moves, Guards, Ask
 use Rattle.dbn_net.specs.declared.written.Written.{Written}
 use Rattle.dbn_net.specs.declared.written.Written.TheVariants as written
 use Rattle.dbn_net.specs.Maybe.{◌>>=◌, each, some, only_if}
-use Rattle.dbn_net.specs.PendingSexp.{constant_in, list_in}
+use Rattle.dbn_sexp.specs.Parts.{constant_in, list_in}
 use Rattle.dbn_net.specs.Forms.{is_word, name_in, variable_in, term_in, type_in, typed_in, typed_variable_in, scope_in, is_connective, int_of, int_in, group_of, group_in, heap_of, heap_in, parts_of, is_guard, body_in, guard_of, clause_of, clause_in, bare_rule, clauses_from, relation_of, key_of, fields_in, side_of, referring_of, foreign_of, always_of, query_of, effect_of, effect_in, action_of, control_of, view_of, transition_of, fact_of, token_of, declared, declaration_in}
 use Rattle.dbn_net.specs.Printing.{no_lines, word, constant, form, term_sexp, type_sexp, typed_sexp, variable_sexp, typed_variable_sexp, scope_sexp, names_sexp, phrase_sexp, group_parts, group_sexp, heap_sexp, heap_parts, rule_parts, sexp_of}
 use Rattle.dbn_net.proofs.Maybes.{some_is, first_found, if_found, if_either, mapped_found, some_same}
@@ -118,23 +118,23 @@ guard_shown w (g ∷ h ∷ parts) c k e = absurd cc
 clause_shown : (w : List ℕ) (parts : List Sexp) (c : Clause) → clause_of w parts ≡ Some c → ClauseShown w parts c
 clause_shown w parts c e =
     ⊎_elim (λ a. let (p, is, made) = mapped_found (λ q. Moves (move.In q)) (parts_of parts) c a.1 in
-        subst (ClauseShown w parts) made (record { printed = heap_parts p; is = ap (λ v. form v (heap_parts p)) (sym (word_is w (codes "in") a.0)); same = parts_shown parts p is; proper = tt })) (λ a.
+    subst (ClauseShown w parts) made (record { printed = heap_parts p; is = ap (λ v. form v (heap_parts p)) (sym (word_is w (codes "in") a.0)); same = parts_shown parts p is; proper = tt })) (λ a.
     ⊎_elim (λ b. let (g, is, made) = mapped_found (λ q. Moves (move.Read q)) (group_of parts) c b.1 in
-        subst (ClauseShown w parts) made (record { printed = group_parts g; is = ap (λ v. form v (group_parts g)) (sym (word_is w (codes "read") b.0)); same = group_shown parts g is; proper = tt })) (λ b.
+    subst (ClauseShown w parts) made (record { printed = group_parts g; is = ap (λ v. form v (group_parts g)) (sym (word_is w (codes "read") b.0)); same = group_shown parts g is; proper = tt })) (λ b.
     ⊎_elim (λ d. guard_shown w parts c (word_is w (codes "guard") d.0) d.1) (λ d.
     ⊎_elim (λ n. let (xs, is, made) = mapped_found Asks (each typed_variable_in parts >>= some) c n.1 in
-        let (ys, are, kept) = first_found (each typed_variable_in parts) some xs is in
-        subst (ClauseShown w parts) made (record { printed = map typed_variable_sexp xs; is = ap (λ v. form v (map typed_variable_sexp xs)) (sym (word_is w (codes "ask") n.0)); same = some_each typed_variable_in typed_variable_sexp typed_variable_found parts xs is; proper = proper_asks ys xs kept })) (λ n.
+    let (ys, are, kept) = first_found (each typed_variable_in parts) some xs is in
+    subst (ClauseShown w parts) made (record { printed = map typed_variable_sexp xs; is = ap (λ v. form v (map typed_variable_sexp xs)) (sym (word_is w (codes "ask") n.0)); same = some_each typed_variable_in typed_variable_sexp typed_variable_found parts xs is; proper = proper_asks ys xs kept })) (λ n.
     ⊎_elim (λ f. let (xs, is, made) = mapped_found Draws (each variable_in parts >>= some) c f.1 in
-        let (ys, are, kept) = first_found (each variable_in parts) some xs is in
-        subst (ClauseShown w parts) made (record { printed = map variable_sexp xs; is = ap (λ v. form v (map variable_sexp xs)) (sym (word_is w (codes "fresh") f.0)); same = some_each variable_in variable_sexp variable_found parts xs is; proper = proper_draws ys xs kept })) (λ f.
+    let (ys, are, kept) = first_found (each variable_in parts) some xs is in
+    subst (ClauseShown w parts) made (record { printed = map variable_sexp xs; is = ap (λ v. form v (map variable_sexp xs)) (sym (word_is w (codes "fresh") f.0)); same = some_each variable_in variable_sexp variable_found parts xs is; proper = proper_draws ys xs kept })) (λ f.
     ⊎_elim (λ h. let (g, is, made) = mapped_found Calls (group_of parts) c h.1 in
-        subst (ClauseShown w parts) made (record { printed = group_parts g; is = ap (λ v. form v (group_parts g)) (sym (word_is w (codes "do") h.0)); same = group_shown parts g is; proper = tt })) (λ h.
+    subst (ClauseShown w parts) made (record { printed = group_parts g; is = ap (λ v. form v (group_parts g)) (sym (word_is w (codes "do") h.0)); same = group_shown parts g is; proper = tt })) (λ h.
     ⊎_elim (λ j. let (p, is, made) = mapped_found Puts (parts_of parts) c j.1 in
-        subst (ClauseShown w parts) made (record { printed = heap_parts p; is = ap (λ v. form v (heap_parts p)) (sym (word_is w (codes "out") j.0)); same = parts_shown parts p is; proper = tt })) (λ j.
-        let last = if_found (is_word w (codes "back")) (option_map Returns (parts_of parts)) c j.1 in
-        let (p, is, made) = mapped_found Returns (parts_of parts) c last.1 in
-        subst (ClauseShown w parts) made (record { printed = heap_parts p; is = ap (λ v. form v (heap_parts p)) (sym (word_is w (codes "back") last.0)); same = parts_shown parts p is; proper = tt }))
+    subst (ClauseShown w parts) made (record { printed = heap_parts p; is = ap (λ v. form v (heap_parts p)) (sym (word_is w (codes "out") j.0)); same = parts_shown parts p is; proper = tt })) (λ j.
+    let last = if_found (is_word w (codes "back")) (option_map Returns (parts_of parts)) c j.1 in
+    let (p, is, made) = mapped_found Returns (parts_of parts) c last.1 in
+    subst (ClauseShown w parts) made (record { printed = heap_parts p; is = ap (λ v. form v (heap_parts p)) (sym (word_is w (codes "back") last.0)); same = parts_shown parts p is; proper = tt }))
     (if_either (is_word w (codes "out")) _ _ c h.1))
     (if_either (is_word w (codes "do")) _ _ c f.1))
     (if_either (is_word w (codes "fresh")) _ _ c n.1))
@@ -156,9 +156,11 @@ pub transition_parts : (parts : List Sexp) (w : Written) → transition_of parts
 transition_parts [] w e = absurd cc
 transition_parts (t ∷ parts) w e =
     let (name, is, rest) = first_found (name_in t) (λ n. clauses_from (0, bare_rule n) parts >>= λ r. Some (written.Transition r)) w e in
-    let (r, was, made) = first_found (clauses_from (0, bare_rule name) parts) (λ x. Some (written.Transition x)) w rest in
-    (r, sym (some_is (written.Transition r) w made),
-        clauses_printed clause_found 0 (bare_rule name) parts r (bare_ranked name) was ∙ ap (λ x. x ∷ map no_lines parts) (name_found t name is))
+    let (r, was, made) = first_found (clauses_from (0, bare_rule name) parts) (λ x. Some (written.Transition x)) w rest in (
+      r,
+      sym (some_is (written.Transition r) w made),
+      clauses_printed clause_found 0 (bare_rule name) parts r (bare_ranked name) was ∙ ap (λ x. x ∷ map no_lines parts) (name_found t name is),
+    )
 
 -- ---- the other shapes
 
@@ -212,7 +214,7 @@ referring_shows w r fs a (s ∷ gs ∷ []) x k first e =
     let q = side_found s gs b is in
     by_word w (codes "foreign") (r ∷ fs ∷ s ∷ gs ∷ []) (written.Foreign a.0 a.1 b.0 b.1) x (word a.0 ∷ names_sexp a.1 ∷ word b.0 ∷ names_sexp b.1 ∷ []) k refl (some_is (written.Foreign a.0 a.1 b.0 b.1) x made)
     (headed_list (word a.0) (names_sexp a.1 ∷ word b.0 ∷ names_sexp b.1 ∷ []) r (fs ∷ s ∷ gs ∷ []) p.0
-        (headed_list (names_sexp a.1) (word b.0 ∷ names_sexp b.1 ∷ []) fs (s ∷ gs ∷ []) p.1 (first_two (word b.0) (names_sexp b.1) s gs q.0 q.1)))
+    (headed_list (names_sexp a.1) (word b.0 ∷ names_sexp b.1 ∷ []) fs (s ∷ gs ∷ []) p.1 (first_two (word b.0) (names_sexp b.1) s gs q.0 q.1)))
 referring_shows w r fs a (s ∷ gs ∷ t ∷ parts) x k first e = absurd cc
 
 foreign_shows : (w : List ℕ) (parts : List Sexp) (x : Written) → is_word w (codes "foreign") ≡ true → foreign_of parts ≡ Some x → Shows w parts x
@@ -249,7 +251,7 @@ token_shows w (p ∷ m ∷ parts) x k e =
     let (row, are, made) = first_found (each constant_in parts) (λ vs. Some (written.Token place many vs)) x last in
     by_word w (codes "token") (p ∷ m ∷ parts) (written.Token place many row) x (word place ∷ constant (value.Int many) ∷ map constant row) k refl (some_is (written.Token place many row) x made)
     (headed_list (word place) (constant (value.Int many) ∷ map constant row) p (m ∷ parts) (name_found p place is)
-        (headed_list (constant (value.Int many)) (map constant row) m parts (int_found m many was) (each_found constant_in constant constant_found parts row are)))
+    (headed_list (constant (value.Int many)) (map constant row) m parts (int_found m many was) (each_found constant_in constant constant_found parts row are)))
 
 effect_found : (kind : List ℕ) (one : Sexp) (gs : List Group) → effect_in kind one ≡ Some gs → form kind (map group_sexp gs) ≡ no_lines one
 effect_found kind one gs e =
@@ -272,8 +274,8 @@ action_shows w (a ∷ b ∷ c ∷ d ∷ []) x k e =
     let new : Sexp = form (codes "add") (map group_sexp adds) in
     by_word w (codes "action") (a ∷ b ∷ c ∷ d ∷ []) (written.Action name params deletes adds) x (word name ∷ scope_sexp params ∷ gone ∷ new ∷ []) k refl (some_is (written.Action name params deletes adds) x made)
     (headed_list (word name) (scope_sexp params ∷ gone ∷ new ∷ []) a (b ∷ c ∷ d ∷ []) (name_found a name is)
-        (headed_list (scope_sexp params) (gone ∷ new ∷ []) b (c ∷ d ∷ []) (scope_found b params are)
-            (first_two gone new c d (effect_found (codes "delete") c deletes go) (effect_found (codes "add") d adds come))))
+    (headed_list (scope_sexp params) (gone ∷ new ∷ []) b (c ∷ d ∷ []) (scope_found b params are)
+    (first_two gone new c d (effect_found (codes "delete") c deletes go) (effect_found (codes "add") d adds come))))
 action_shows w (a ∷ b ∷ c ∷ d ∷ f ∷ parts) x k e = absurd cc
 
 always_shows : (w : List ℕ) (parts : List Sexp) (x : Written) → is_word w (codes "always") ≡ true → always_of parts ≡ Some x → Shows w parts x
@@ -296,9 +298,12 @@ fact_parts : (parts : List Sexp) (x : Written) → fact_of parts ≡ Some x
 fact_parts [] x e = absurd cc
 fact_parts (r ∷ parts) x e =
     let (rel, is, rest) = first_found (name_in r) (λ n. each constant_in parts >>= λ vs. Some (written.Fact n vs)) x e in
-    let (row, are, made) = first_found (each constant_in parts) (λ vs. Some (written.Fact rel vs)) x rest in
-    (rel, row, sym (some_is (written.Fact rel row) x made),
-        headed_list (word rel) (map constant row) r parts (name_found r rel is) (each_found constant_in constant constant_found parts row are))
+    let (row, are, made) = first_found (each constant_in parts) (λ vs. Some (written.Fact rel vs)) x rest in (
+      rel,
+      row,
+      sym (some_is (written.Fact rel row) x made),
+      headed_list (word rel) (map constant row) r parts (name_found r rel is) (each_found constant_in constant constant_found parts row are),
+    )
 
 fact_shows : (w : List ℕ) (parts : List Sexp) (x : Written) → is_word w (codes "fact") ≡ true → fact_of parts ≡ Some x → Shows w parts x
 fact_shows w parts x k e =

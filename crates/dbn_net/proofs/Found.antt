@@ -11,11 +11,11 @@ use Rattle.dbn_sexp.proofs.TreeLaws.{line_name, line_const, line_list}
 use Rattle.dbn_net.specs.declared.written.Phrase.{Phrase}
 use Rattle.dbn_net.specs.declared.written.Phrase.TheVariants as phrase
 use Rattle.dbn_net.specs.Maybe.{◌>>=◌, each, only_if}
-use Rattle.dbn_net.specs.PendingSexp.{word_in, constant_in, list_in}
+use Rattle.dbn_sexp.specs.Parts.{word_in, constant_in, list_in}
 use Rattle.dbn_net.specs.Forms.{Name, is_word, with_word, name_in, one_of, two_of, phrase_of, phrase_in}
 use Rattle.dbn_net.specs.Printing.{on_no_line, no_lines, word, constant, list, form, phrase_sexp}
 use Rattle.dbn_net.proofs.Maybes.{some_is, first_found, if_found, mapped_found}
-use Rattle.dbn_net.proofs.SexpParts.{word_found, constant_is, list_found}
+use Rattle.dbn_sexp.proofs.PartLaws.{word_found, constant_is, list_found}
 use Rattle.dbn_net.proofs.PhraseLaws.{phrase_deeper, sexp_and, sexp_not}
 
 pub word_is : (w k : Name) → is_word w k ≡ true → w ≡ k
@@ -106,14 +106,16 @@ module _ (read : Sexp → Option Phrase) (found : (one : Sexp) (p : Phrase) → 
   and_found w parts p first e =
       let (ps, are, made) = mapped_found phrase.And (each read parts) p e in
       record {
-          printed = map phrase_sexp ps;
-          is = ap phrase_sexp (sym made) ∙ sexp_and ps ∙ ap (λ k. form k (map phrase_sexp ps)) (sym (word_is w (codes "and") first));
-          same = each_found read phrase_sexp found parts ps are }
+        printed = map phrase_sexp ps;
+        is = ap phrase_sexp (sym made) ∙ sexp_and ps ∙ ap (λ k. form k (map phrase_sexp ps)) (sym (word_is w (codes "and") first));
+        same = each_found read phrase_sexp found parts ps are;
+      }
 
   pub not_found : (w : Name) (parts : List Sexp) (p : Phrase) → is_word w (codes "not") ≡ true → option_map phrase.Not (one_of read parts) ≡ Some p → Shown w parts p
   not_found w parts p first e =
       let (q, is, made) = mapped_found phrase.Not (one_of read parts) p e in
       record {
-          printed = phrase_sexp q ∷ [];
-          is = ap phrase_sexp (sym made) ∙ sexp_not q ∙ ap (λ k. form k (phrase_sexp q ∷ [])) (sym (word_is w (codes "not") first));
-          same = one_found parts q is }
+        printed = phrase_sexp q ∷ [];
+        is = ap phrase_sexp (sym made) ∙ sexp_not q ∙ ap (λ k. form k (phrase_sexp q ∷ [])) (sym (word_is w (codes "not") first));
+        same = one_found parts q is;
+      }

@@ -1,9 +1,7 @@
 pub mod Maybes
-pub mod SexpParts
 pub mod PhraseFolds
 pub mod PhraseLaws
 pub mod LinesLaws
-pub mod AlikeLaws
 pub mod Found
 pub mod ParsedAgain
 pub mod RulesFound
@@ -15,3 +13,26 @@ pub mod JudgedLaws
 pub mod PassesLaws
 pub mod AtomLaws
 mod TextExamples
+pub mod Listed
+pub mod MadeLaws
+pub mod Scoped
+pub mod LiftLaws
+pub mod ViolationLaws
+pub mod InsideLaws
+pub mod BackLaws
+pub mod Appended
+pub mod RoundFacts
+pub mod RoundTokens
+pub mod RoundShapes
+pub mod RoundNames
+pub mod RoundPlaces
+pub mod RoundWhole
+pub mod RoundDepth
+pub mod RoundNext
+pub mod RoundText
+pub mod NameTables
+pub mod NextLaws
+pub mod RoundRules
+pub mod RoundGood
+pub mod PositionLaws
+mod EnabledExamples

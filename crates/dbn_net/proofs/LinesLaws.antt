@@ -5,19 +5,14 @@ use Rattle.dbn_value.specs.Text.{is_identifier}
 use Rattle.dbn_value.specs.declared.term.Cmp.{Cmp}
 use Rattle.dbn_sexp.specs.declared.sexp.Sexp.{Sexp}
 use Rattle.dbn_sexp.specs.Printing.{on_line}
-use Rattle.dbn_sexp.proofs.TreeLaws.{Steps, induction, line_name, line_const, line_list}
+use Rattle.dbn_sexp.proofs.LinesLaws.{lined, word_alike, constant_alike, list_alike}
 use Rattle.dbn_net.specs.declared.written.Phrase.{Phrase}
 use Rattle.dbn_net.specs.declared.written.Rule.{Rule}
 use Rattle.dbn_net.specs.declared.written.Written.TheVariants as written
 use Rattle.dbn_net.specs.Maybe.{◌>>=◌, each, some, only_if}
-use Rattle.dbn_net.specs.PendingSexp.{word_in, constant_in, list_in}
+use Rattle.dbn_sexp.specs.Parts.{word_in, constant_in, list_in}
 use Rattle.dbn_net.specs.Forms.{with_word, name_in, variable, variable_in, term_in, type_of, type_in, typed_of, typed_in, typed_variable_in, scope_in, int_of, int_in, comparison_of, test_of, atom_of, compared_or_atom, one_of, two_of, quantified_of, connected, phrase_of, phrase_in, group_of, group_in, heap_of, heap_in, parts_of, guard_of, clause_of, clause_in, rank, follows, with_clause, bare_rule, clause_step, clauses_from, relation_of, key_of, fields_in, side_of, referring_of, foreign_of, always_of, query_of, effect_of, effect_in, action_of, control_of, view_of, transition_of, fact_of, token_of, declared, declaration_in}
-use Rattle.dbn_net.proofs.SexpParts.{word_name, word_const, word_list, constant_name, constant_const, constant_list, list_name, list_const, list_list}
 use Rattle.dbn_net.proofs.PhraseLaws.{declaration_is, phrase_too_deep, phrase_deeper}
-
--- the whole on one line
-abbrev pub lined : ℕ → Sexp → Sexp
-lined n one = record { line = n; item = on_line n one.item }
 
 abbrev pub Alike : {A : Type 0} → (Sexp → Option A) → ℕ → Type 0
 Alike f n = (one : Sexp) → f (lined n one) ≡ f one
@@ -26,33 +21,6 @@ abbrev pub ListsAlike : {A : Type 0} → (List Sexp → Option A) → ℕ → Ty
 ListsAlike g n = (parts : List Sexp) → g (map (lined n) parts) ≡ g parts
 
 module _ (n : ℕ) where
-  word_steps : Steps (λ i. (line : ℕ) → word_in (record { line = n; item = on_line n i }) ≡ word_in (record { line = line; item = i }))
-  word_steps = record {
-      name = λ name line. ap (λ i. word_in (record { line = n; item = i })) (line_name n name) ∙ word_name n name ∙ sym (word_name line name);
-      const = λ v line. ap (λ i. word_in (record { line = n; item = i })) (line_const n v) ∙ word_const n v ∙ sym (word_const line v);
-      list = λ parts all line. ap (λ i. word_in (record { line = n; item = i })) (line_list n parts) ∙ word_list n _ ∙ sym (word_list line parts) }
-
-  pub word_alike : Alike word_in n
-  word_alike one = induction _ word_steps one.item one.line
-
-  constant_steps : Steps (λ i. (line : ℕ) → constant_in (record { line = n; item = on_line n i }) ≡ constant_in (record { line = line; item = i }))
-  constant_steps = record {
-      name = λ name line. ap (λ i. constant_in (record { line = n; item = i })) (line_name n name) ∙ constant_name n name ∙ sym (constant_name line name);
-      const = λ v line. ap (λ i. constant_in (record { line = n; item = i })) (line_const n v) ∙ constant_const n v ∙ sym (constant_const line v);
-      list = λ parts all line. ap (λ i. constant_in (record { line = n; item = i })) (line_list n parts) ∙ constant_list n _ ∙ sym (constant_list line parts) }
-
-  pub constant_alike : Alike constant_in n
-  constant_alike one = induction _ constant_steps one.item one.line
-
-  list_steps : Steps (λ i. (line : ℕ) → list_in (record { line = n; item = on_line n i }) ≡ option_map (map (lined n)) (list_in (record { line = line; item = i })))
-  list_steps = record {
-      name = λ name line. ap (λ i. list_in (record { line = n; item = i })) (line_name n name) ∙ list_name n name ∙ ap (option_map (map (lined n))) (sym (list_name line name));
-      const = λ v line. ap (λ i. list_in (record { line = n; item = i })) (line_const n v) ∙ list_const n v ∙ ap (option_map (map (lined n))) (sym (list_const line v));
-      list = λ parts all line. ap (λ i. list_in (record { line = n; item = i })) (line_list n parts) ∙ list_list n _ ∙ ap (option_map (map (lined n))) (sym (list_list line parts)) }
-
-  pub list_alike : (one : Sexp) → list_in (lined n one) ≡ option_map (map (lined n)) (list_in one)
-  list_alike one = induction _ list_steps one.item one.line
-
   module _ {A : Type 0} where
     on_lists : (g : List Sexp → Option A) → ListsAlike g n → (o : Option (List Sexp)) → (option_map (map (lined n)) o >>= g) ≡ (o >>= g)
     on_lists g alike None = refl
@@ -60,7 +28,7 @@ module _ (n : ℕ) where
 
     -- what goes on with the parts of a list
     pub through_list : (g : List Sexp → Option A) → ListsAlike g n → (one : Sexp) → (list_in (lined n one) >>= g) ≡ (list_in one >>= g)
-    through_list g alike one = ap (λ o. o >>= g) (list_alike one) ∙ on_lists g alike (list_in one)
+    through_list g alike one = ap (λ o. o >>= g) (list_alike n one) ∙ on_lists g alike (list_in one)
 
     pub each_alike : (f : Sexp → Option A) → Alike f n → ListsAlike (each f) n
     each_alike f alike [] = refl
@@ -71,7 +39,7 @@ module _ (n : ℕ) where
     pub word_first : (read : List ℕ → List Sexp → Option A) → ((w : List ℕ) → ListsAlike (read w) n) → ListsAlike (with_word read) n
     word_first read alike [] = refl
     word_first read alike (head ∷ parts) =
-        ap (λ o. o >>= λ w. read w (map (lined n) parts)) (word_alike head)
+        ap (λ o. o >>= λ w. read w (map (lined n) parts)) (word_alike n head)
         ∙ by (word_in head)
       where
         by : (o : Option (List ℕ)) → (o >>= λ w. read w (map (lined n) parts)) ≡ (o >>= λ w. read w parts)
@@ -81,12 +49,12 @@ module _ (n : ℕ) where
   -- ---- parts
 
   pub term_alike : Alike term_in n
-  term_alike one = rw (word_alike one, constant_alike one) refl
+  term_alike one = rw (word_alike n one, constant_alike n one) refl
 
   typed_lists : ListsAlike typed_of n
   typed_lists [] = refl
   typed_lists (a ∷ []) = refl
-  typed_lists (a ∷ b ∷ []) = rw (word_alike a, word_alike b) refl
+  typed_lists (a ∷ b ∷ []) = rw (word_alike n a, word_alike n b) refl
   typed_lists (a ∷ b ∷ c ∷ parts) = refl
 
   pub typed_alike : Alike typed_in n
@@ -99,31 +67,31 @@ module _ (n : ℕ) where
   scope_alike one = through_list (each typed_variable_in) (each_alike typed_variable_in typed_variable_alike) one
 
   pub name_alike : Alike name_in n
-  name_alike one = ap (λ o. o >>= λ name. only_if (is_identifier name) name) (word_alike one)
+  name_alike one = ap (λ o. o >>= λ name. only_if (is_identifier name) name) (word_alike n one)
 
   int_alike : Alike int_in n
-  int_alike one = ap (λ o. o >>= int_of) (constant_alike one)
+  int_alike one = ap (λ o. o >>= int_of) (constant_alike n one)
 
   type_alike : Alike type_in n
-  type_alike one = ap (λ o. o >>= type_of) (word_alike one)
+  type_alike one = ap (λ o. o >>= type_of) (word_alike n one)
 
   group_lists : ListsAlike group_of n
   group_lists [] = refl
-  group_lists (r ∷ parts) = rw (word_alike r, each_alike term_in term_alike parts) refl
+  group_lists (r ∷ parts) = rw (word_alike n r, each_alike term_in term_alike parts) refl
 
   group_alike : Alike group_in n
   group_alike one = through_list group_of group_lists one
 
   heap_lists : ListsAlike heap_of n
   heap_lists [] = refl
-  heap_lists (m ∷ parts) = rw (constant_alike m, each_alike term_in term_alike parts) refl
+  heap_lists (m ∷ parts) = rw (constant_alike n m, each_alike term_in term_alike parts) refl
 
   heap_alike : Alike heap_in n
   heap_alike one = through_list heap_of heap_lists one
 
   parts_lists : ListsAlike parts_of n
   parts_lists [] = refl
-  parts_lists (p ∷ parts) = rw (word_alike p, each_alike heap_in heap_alike parts) refl
+  parts_lists (p ∷ parts) = rw (word_alike n p, each_alike heap_in heap_alike parts) refl
 
   -- ---- formulas
 
@@ -202,11 +170,11 @@ module _ (n : ℕ) where
 
   relation_lists : ListsAlike relation_of n
   relation_lists [] = refl
-  relation_lists (r ∷ parts) = rw (word_alike r, each_alike typed_in typed_alike parts) refl
+  relation_lists (r ∷ parts) = rw (word_alike n r, each_alike typed_in typed_alike parts) refl
 
   key_lists : ListsAlike key_of n
   key_lists [] = refl
-  key_lists (r ∷ parts) = rw (word_alike r, each_alike name_in name_alike parts) refl
+  key_lists (r ∷ parts) = rw (word_alike n r, each_alike name_in name_alike parts) refl
 
   fields_alike : Alike fields_in n
   fields_alike one = ap (λ o. o >>= some) (through_list (each name_in) (each_alike name_in name_alike) one)
@@ -277,12 +245,12 @@ module _ (n : ℕ) where
 
   fact_lists : ListsAlike fact_of n
   fact_lists [] = refl
-  fact_lists (r ∷ parts) = rw (name_alike r, each_alike constant_in constant_alike parts) refl
+  fact_lists (r ∷ parts) = rw (name_alike r, each_alike constant_in (constant_alike n) parts) refl
 
   token_lists : ListsAlike token_of n
   token_lists [] = refl
   token_lists (p ∷ []) = refl
-  token_lists (p ∷ m ∷ parts) = rw (name_alike p, int_alike m, each_alike constant_in constant_alike parts) refl
+  token_lists (p ∷ m ∷ parts) = rw (name_alike p, int_alike m, each_alike constant_in (constant_alike n) parts) refl
 
   declared_lists : (w : List ℕ) → ListsAlike (declared w) n
   declared_lists w parts =

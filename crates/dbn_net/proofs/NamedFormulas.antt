@@ -26,30 +26,31 @@ module _ (names : List Name) where
 
   again_steps : Steps IsAgain
   again_steps = record {
-      atom = λ rel terms f e.
-          let (n, is, made) = mapped_found (λ k. formula.Atom k terms) (number_of names rel) f (sym (resolved_atom names rel terms) ∙ e) in
-          ap (named_formula names) (sym made) ∙ named_atom names n terms ∙ ap (λ r. phrase.Atom r terms) (name_again names rel n is);
-      test = λ c a b f e. ap (named_formula names) (sym (some_is (formula.Test c a b) f (sym (resolved_test names c a b) ∙ e))) ∙ named_test names c a b;
-      both = λ ps all f e.
-          let (fs, are, made) = mapped_found formula.And (all_known (map (resolved_phrase names) ps)) f (sym (resolved_and names ps) ∙ e) in
-          ap (named_formula names) (sym made) ∙ named_and names fs ∙ ap phrase.And (all_again ps all fs are);
-      either = λ ps all f e.
-          let (fs, are, made) = mapped_found formula.Or (all_known (map (resolved_phrase names) ps)) f (sym (resolved_or names ps) ∙ e) in
-          ap (named_formula names) (sym made) ∙ named_or names fs ∙ ap phrase.Or (all_again ps all fs are);
-      denial = λ p again f e.
-          let (g, is, made) = mapped_found formula.Not (resolved_phrase names p) f (sym (resolved_not names p) ∙ e) in
-          ap (named_formula names) (sym made) ∙ named_not names g ∙ ap phrase.Not (again g is);
-      implication = λ p q left right f e.
-          let (g, is, rest) = first_found (resolved_phrase names p) (λ x. resolved_phrase names q >>= λ y. Some (formula.Implies x y)) f (sym (resolved_implies names p q) ∙ e) in
-          let (h, was, made) = first_found (resolved_phrase names q) (λ y. Some (formula.Implies g y)) f rest in
-          ap (named_formula names) (sym (some_is (formula.Implies g h) f made)) ∙ named_implies names g h
-          ∙ ap (λ x. phrase.Implies x (named_formula names h)) (left g is) ∙ ap (phrase.Implies p) (right h was);
-      some = λ vars p again f e.
-          let (g, is, made) = mapped_found (formula.Exists vars) (resolved_phrase names p) f (sym (resolved_exists names vars p) ∙ e) in
-          ap (named_formula names) (sym made) ∙ named_exists names vars g ∙ ap (phrase.Exists vars) (again g is);
-      every = λ vars p again f e.
-          let (g, is, made) = mapped_found (formula.Forall vars) (resolved_phrase names p) f (sym (resolved_forall names vars p) ∙ e) in
-          ap (named_formula names) (sym made) ∙ named_forall names vars g ∙ ap (phrase.Forall vars) (again g is) }
+    atom = λ rel terms f e.
+        let (n, is, made) = mapped_found (λ k. formula.Atom k terms) (number_of names rel) f (sym (resolved_atom names rel terms) ∙ e) in
+        ap (named_formula names) (sym made) ∙ named_atom names n terms ∙ ap (λ r. phrase.Atom r terms) (name_again names rel n is);
+    test = λ c a b f e. ap (named_formula names) (sym (some_is (formula.Test c a b) f (sym (resolved_test names c a b) ∙ e))) ∙ named_test names c a b;
+    both = λ ps all f e.
+        let (fs, are, made) = mapped_found formula.And (all_known (map (resolved_phrase names) ps)) f (sym (resolved_and names ps) ∙ e) in
+        ap (named_formula names) (sym made) ∙ named_and names fs ∙ ap phrase.And (all_again ps all fs are);
+    either = λ ps all f e.
+        let (fs, are, made) = mapped_found formula.Or (all_known (map (resolved_phrase names) ps)) f (sym (resolved_or names ps) ∙ e) in
+        ap (named_formula names) (sym made) ∙ named_or names fs ∙ ap phrase.Or (all_again ps all fs are);
+    denial = λ p again f e.
+        let (g, is, made) = mapped_found formula.Not (resolved_phrase names p) f (sym (resolved_not names p) ∙ e) in
+        ap (named_formula names) (sym made) ∙ named_not names g ∙ ap phrase.Not (again g is);
+    implication = λ p q left right f e.
+        let (g, is, rest) = first_found (resolved_phrase names p) (λ x. resolved_phrase names q >>= λ y. Some (formula.Implies x y)) f (sym (resolved_implies names p q) ∙ e) in
+        let (h, was, made) = first_found (resolved_phrase names q) (λ y. Some (formula.Implies g y)) f rest in
+        ap (named_formula names) (sym (some_is (formula.Implies g h) f made)) ∙ named_implies names g h
+        ∙ ap (λ x. phrase.Implies x (named_formula names h)) (left g is) ∙ ap (phrase.Implies p) (right h was);
+    some = λ vars p again f e.
+        let (g, is, made) = mapped_found (formula.Exists vars) (resolved_phrase names p) f (sym (resolved_exists names vars p) ∙ e) in
+        ap (named_formula names) (sym made) ∙ named_exists names vars g ∙ ap (phrase.Exists vars) (again g is);
+    every = λ vars p again f e.
+        let (g, is, made) = mapped_found (formula.Forall vars) (resolved_phrase names p) f (sym (resolved_forall names vars p) ∙ e) in
+        ap (named_formula names) (sym made) ∙ named_forall names vars g ∙ ap (phrase.Forall vars) (again g is);
+  }
 
   pub formula_again : (p : Phrase) (f : Formula) → resolved_phrase names p ≡ Some f → named_formula names f ≡ p
   formula_again p f e = induction IsAgain again_steps p f e

@@ -90,16 +90,20 @@ transition_again net r t e c_in c_out c_back =
     let made : Transition = record { name = r.name; ins = ins; reads = reads; mixture = map is_in_clause r.moves; guard = guard; asked = r.asked; fresh = r.fresh; call = called; outs = outs; backs = backs; bound = bound_of net r.moves } in
     let same : made ≡ t = some_is made t e6 in
     let moves : mixed (map is_in_clause r.moves) (map (parts net) ins) (map (read_group net) reads) ≡ r.moves =
-        ap (λ l. mixed (map is_in_clause r.moves) l (map (read_group net) reads)) (each_again (arc net) (parts net) counted (arc_again net) (ins_of r.moves) ins a (ap (λ u. arcs_counted u.ins) same ∙ c_in))
-        ∙ ap (mixed (map is_in_clause r.moves) (ins_of r.moves)) (each_again (read net) (read_group net) (λ x. true) (read_again net) (reads_of r.moves) reads b (always_true reads))
-        ∙ mixed_again r.moves in
+    ap (λ l. mixed (map is_in_clause r.moves) l (map (read_group net) reads)) (each_again (arc net) (parts net) counted (arc_again net) (ins_of r.moves) ins a (ap (λ u. arcs_counted u.ins) same ∙ c_in))
+    ∙ ap (mixed (map is_in_clause r.moves) (ins_of r.moves)) (each_again (read net) (read_group net) (λ x. true) (read_again net) (reads_of r.moves) reads b (always_true reads))
+    ∙ mixed_again r.moves in
     ap (rule net) (sym same)
     ∙ (λ i. record {
-        name = r.name; moves = moves i;
-        guard = given_again (resolved_phrase []) (named_formula []) (formula_again []) r.guard guard c i; asked = r.asked; fresh = r.fresh;
-        call = given_again (call net) (call_group net) (call_again net) r.call called d i;
-        outs = each_again (arc net) (parts net) counted (arc_again net) r.outs outs f (ap (λ u. arcs_counted u.outs) same ∙ c_out) i;
-        backs = each_again (arc net) (parts net) counted (arc_again net) r.backs backs g (ap (λ u. arcs_counted u.backs) same ∙ c_back) i })
+      name = r.name;
+      moves = moves i;
+      guard = given_again (resolved_phrase []) (named_formula []) (formula_again []) r.guard guard c i;
+      asked = r.asked;
+      fresh = r.fresh;
+      call = given_again (call net) (call_group net) (call_again net) r.call called d i;
+      outs = each_again (arc net) (parts net) counted (arc_again net) r.outs outs f (ap (λ u. arcs_counted u.outs) same ∙ c_out) i;
+      backs = each_again (arc net) (parts net) counted (arc_again net) r.backs backs g (ap (λ u. arcs_counted u.backs) same ∙ c_back) i;
+    })
 
 group_again : (names : List Name) (g : Group) (p : FactPattern) → fact_pattern names g ≡ Some p → true ≡ true → record { name = name_at names p.rel; terms = p.terms } ≡ g
 group_again names g p e t =
@@ -113,5 +117,5 @@ action_again net name params deletes adds d e =
     let (es, b, made) = first_found (each (fact_pattern (relation_names net)) adds) _ d rest in
     ap (named net) (sym (some_is (decl.Act (record { name = name; params = params; deletes = ds; adds = es })) d made))
     ∙ (λ i. written.Action name params
-        (each_again (fact_pattern (relation_names net)) (pattern_group net) (λ x. true) (group_again (relation_names net)) deletes ds a (always_true ds) i)
-        (each_again (fact_pattern (relation_names net)) (pattern_group net) (λ x. true) (group_again (relation_names net)) adds es b (always_true es) i))
+    (each_again (fact_pattern (relation_names net)) (pattern_group net) (λ x. true) (group_again (relation_names net)) deletes ds a (always_true ds) i)
+    (each_again (fact_pattern (relation_names net)) (pattern_group net) (λ x. true) (group_again (relation_names net)) adds es b (always_true es) i))

@@ -15,7 +15,7 @@ use Rattle.dbn_net.specs.declared.written.Phrase.TheVariants as phrase
 use Rattle.dbn_net.specs.declared.written.Written.{Written}
 use Rattle.dbn_net.specs.declared.written.Written.TheVariants as written
 use Rattle.dbn_net.specs.Maybe.{◌>>=◌, each, some, or_else}
-use Rattle.dbn_net.specs.PendingSexp.{word_in, constant_in, list_in}
+use Rattle.dbn_sexp.specs.Parts.{word_in, constant_in, list_in}
 use Rattle.dbn_net.specs.Forms.{is_word, name_in, variable, variable_in, term_in, type_of, type_in, typed_of, typed_in, typed_variable_in, scope_in, some_scope_in, is_connective, comparison_of, test_of, atom_of, compared_or_atom, two_of, quantified_of, connected, phrase_of, phrase_in, body_in, always_of, query_of}
 use Rattle.dbn_net.specs.Printing.{no_lines, word, form, term_sexp, type_word, type_sexp, typed_sexp, scope_sexp, comparison_word, phrase_sexp}
 use Rattle.dbn_net.proofs.Maybes.{some_is, first_found, if_found, if_either, mapped_found, or_found, some_same}
@@ -40,8 +40,8 @@ type_named : (w : List ℕ) (t : ColType) → type_of w ≡ Some t → type_word
 type_named w t e =
     ⊎_elim (λ a. ap type_word (sym (some_is col.Int t a.1)) ∙ sym (word_is w (codes "int") a.0))
     (λ b. ⊎_elim (λ a. ap type_word (sym (some_is col.Text t a.1)) ∙ sym (word_is w (codes "text") a.0))
-        (λ c. let last = if_found (is_word w (codes "id")) (Some col.Id) t c.1 in ap type_word (sym (some_is col.Id t last.1)) ∙ sym (word_is w (codes "id") last.0))
-        (if_either (is_word w (codes "text")) (Some col.Text) (if is_word w (codes "id") then Some col.Id else None) t b.1))
+    (λ c. let last = if_found (is_word w (codes "id")) (Some col.Id) t c.1 in ap type_word (sym (some_is col.Id t last.1)) ∙ sym (word_is w (codes "id") last.0))
+    (if_either (is_word w (codes "text")) (Some col.Text) (if is_word w (codes "id") then Some col.Id else None) t b.1))
     (if_either (is_word w (codes "int")) (Some col.Int) (if is_word w (codes "text") then Some col.Text else if is_word w (codes "id") then Some col.Id else None) t e)
 
 pub type_found : (one : Sexp) (t : ColType) → type_in one ≡ Some t → type_sexp t ≡ no_lines one
@@ -104,9 +104,10 @@ test_parts w c (a ∷ b ∷ []) p is e =
     let (l, left, rest) = first_found (term_in a) (λ x. term_in b >>= λ y. Some (phrase.Test c x y)) p e in
     let (r, right, made) = first_found (term_in b) (λ y. Some (phrase.Test c l y)) p rest in
     record {
-        printed = term_sexp l ∷ term_sexp r ∷ [];
-        is = ap phrase_sexp (sym (some_is (phrase.Test c l r) p made)) ∙ sexp_test c l r ∙ ap (λ k. form k (term_sexp l ∷ term_sexp r ∷ [])) is;
-        same = ap (λ y. y ∷ term_sexp r ∷ []) (term_found a l left) ∙ ap (λ y. no_lines a ∷ y ∷ []) (term_found b r right) }
+      printed = term_sexp l ∷ term_sexp r ∷ [];
+      is = ap phrase_sexp (sym (some_is (phrase.Test c l r) p made)) ∙ sexp_test c l r ∙ ap (λ k. form k (term_sexp l ∷ term_sexp r ∷ [])) is;
+      same = ap (λ y. y ∷ term_sexp r ∷ []) (term_found a l left) ∙ ap (λ y. no_lines a ∷ y ∷ []) (term_found b r right);
+    }
 test_parts w c (a ∷ b ∷ d ∷ parts) p is e = absurd cc
 
 atom_parts : (w : List ℕ) (parts : List Sexp) (p : Phrase) → atom_of w parts ≡ Some p → Shown w parts p
@@ -114,9 +115,10 @@ atom_parts w parts p e =
     let (plain, rest) = if_found (is_identifier w) (option_map (phrase.Atom w) (each term_in parts)) p e in
     let (terms, are, made) = mapped_found (phrase.Atom w) (each term_in parts) p rest in
     record {
-        printed = map term_sexp terms;
-        is = ap phrase_sexp (sym made) ∙ sexp_atom w terms;
-        same = each_found term_in term_sexp term_found parts terms are }
+      printed = map term_sexp terms;
+      is = ap phrase_sexp (sym made) ∙ sexp_atom w terms;
+      same = each_found term_in term_sexp term_found parts terms are;
+    }
 
 compared_or_parts : (o : Option Cmp) (w : List ℕ) (parts : List Sexp) (p : Phrase) → comparison_of w ≡ o → compared_or_atom o w parts ≡ Some p → Shown w parts p
 compared_or_parts None w parts p is e = atom_parts w parts p e
@@ -139,33 +141,37 @@ module _ (read : Sexp → Option Phrase) (found : (one : Sexp) (p : Phrase) → 
   or_parts w parts p word e =
       let (ps, are, made) = mapped_found phrase.Or (each read parts) p e in
       record {
-          printed = map phrase_sexp ps;
-          is = ap phrase_sexp (sym made) ∙ sexp_or ps ∙ ap (λ k. form k (map phrase_sexp ps)) (sym (word_is w (codes "or") word));
-          same = each_found read phrase_sexp found parts ps are }
+        printed = map phrase_sexp ps;
+        is = ap phrase_sexp (sym made) ∙ sexp_or ps ∙ ap (λ k. form k (map phrase_sexp ps)) (sym (word_is w (codes "or") word));
+        same = each_found read phrase_sexp found parts ps are;
+      }
 
   implies_parts : (w : List ℕ) (parts : List Sexp) (p : Phrase) → is_word w (codes "implies") ≡ true → option_map (λ q. phrase.Implies q.0 q.1) (two_of read parts) ≡ Some p → Shown w parts p
   implies_parts w parts p word e =
       let (q, are, made) = mapped_found (λ q. phrase.Implies q.0 q.1) (two_of read parts) p e in
       record {
-          printed = phrase_sexp q.0 ∷ phrase_sexp q.1 ∷ [];
-          is = ap phrase_sexp (sym made) ∙ sexp_implies q.0 q.1 ∙ ap (λ k. form k (phrase_sexp q.0 ∷ phrase_sexp q.1 ∷ [])) (sym (word_is w (codes "implies") word));
-          same = two_found read found parts q are }
+        printed = phrase_sexp q.0 ∷ phrase_sexp q.1 ∷ [];
+        is = ap phrase_sexp (sym made) ∙ sexp_implies q.0 q.1 ∙ ap (λ k. form k (phrase_sexp q.0 ∷ phrase_sexp q.1 ∷ [])) (sym (word_is w (codes "implies") word));
+        same = two_found read found parts q are;
+      }
 
   exists_parts : (w : List ℕ) (parts : List Sexp) (p : Phrase) → is_word w (codes "exists") ≡ true → option_map (λ q. phrase.Exists q.0 q.1) (quantified_of read parts) ≡ Some p → Shown w parts p
   exists_parts w parts p word e =
       let (q, are, made) = mapped_found (λ q. phrase.Exists q.0 q.1) (quantified_of read parts) p e in
       record {
-          printed = scope_sexp q.0 ∷ phrase_sexp q.1 ∷ [];
-          is = ap phrase_sexp (sym made) ∙ sexp_exists q.0 q.1 ∙ ap (λ k. form k (scope_sexp q.0 ∷ phrase_sexp q.1 ∷ [])) (sym (word_is w (codes "exists") word));
-          same = quantified_parts parts q are }
+        printed = scope_sexp q.0 ∷ phrase_sexp q.1 ∷ [];
+        is = ap phrase_sexp (sym made) ∙ sexp_exists q.0 q.1 ∙ ap (λ k. form k (scope_sexp q.0 ∷ phrase_sexp q.1 ∷ [])) (sym (word_is w (codes "exists") word));
+        same = quantified_parts parts q are;
+      }
 
   forall_parts : (w : List ℕ) (parts : List Sexp) (p : Phrase) → is_word w (codes "forall") ≡ true → option_map (λ q. phrase.Forall q.0 q.1) (quantified_of read parts) ≡ Some p → Shown w parts p
   forall_parts w parts p word e =
       let (q, are, made) = mapped_found (λ q. phrase.Forall q.0 q.1) (quantified_of read parts) p e in
       record {
-          printed = scope_sexp q.0 ∷ phrase_sexp q.1 ∷ [];
-          is = ap phrase_sexp (sym made) ∙ sexp_forall q.0 q.1 ∙ ap (λ k. form k (scope_sexp q.0 ∷ phrase_sexp q.1 ∷ [])) (sym (word_is w (codes "forall") word));
-          same = quantified_parts parts q are }
+        printed = scope_sexp q.0 ∷ phrase_sexp q.1 ∷ [];
+        is = ap phrase_sexp (sym made) ∙ sexp_forall q.0 q.1 ∙ ap (λ k. form k (scope_sexp q.0 ∷ phrase_sexp q.1 ∷ [])) (sym (word_is w (codes "forall") word));
+        same = quantified_parts parts q are;
+      }
 
   last_word : (a b c d e f : Bool) → (a || b || c || d || e || f) ≡ true → a ≡ false → b ≡ false → c ≡ false → d ≡ false → e ≡ false → f ≡ true
   last_word false false false false false f is _ _ _ _ _ = is
@@ -182,8 +188,8 @@ module _ (read : Sexp → Option Phrase) (found : (one : Sexp) (p : Phrase) → 
       ⊎_elim (λ c. not_found read found w parts p c.0 c.1) (λ c.
       ⊎_elim (λ d. implies_parts w parts p d.0 d.1) (λ d.
       ⊎_elim (λ x. exists_parts w parts p x.0 x.1) (λ x.
-          forall_parts w parts p
-          (last_word (is_word w (codes "and")) (is_word w (codes "or")) (is_word w (codes "not")) (is_word w (codes "implies")) (is_word w (codes "exists")) (is_word w (codes "forall")) is a.0 b.0 c.0 d.0 x.0) x.1)
+      forall_parts w parts p
+      (last_word (is_word w (codes "and")) (is_word w (codes "or")) (is_word w (codes "not")) (is_word w (codes "implies")) (is_word w (codes "exists")) (is_word w (codes "forall")) is a.0 b.0 c.0 d.0 x.0) x.1)
       (if_either (is_word w (codes "exists")) _ _ p d.1))
       (if_either (is_word w (codes "implies")) _ _ p c.1))
       (if_either (is_word w (codes "not")) _ _ p b.1))
@@ -210,9 +216,12 @@ always_parts [] w e = absurd cc
 always_parts (c ∷ []) w e = absurd cc
 always_parts (c ∷ f ∷ []) w e =
     let (name, is, rest) = first_found (name_in c) (λ n. body_in f >>= λ b. Some (written.Always n b)) w e in
-    let (body, was, made) = first_found (body_in f) (λ b. Some (written.Always name b)) w rest in
-    (name, body, sym (some_is (written.Always name body) w made),
-        ap (λ y. y ∷ phrase_sexp body ∷ []) (name_found c name is) ∙ ap (λ y. no_lines c ∷ y ∷ []) (phrase_found 64 f body was))
+    let (body, was, made) = first_found (body_in f) (λ b. Some (written.Always name b)) w rest in (
+      name,
+      body,
+      sym (some_is (written.Always name body) w made),
+      ap (λ y. y ∷ phrase_sexp body ∷ []) (name_found c name is) ∙ ap (λ y. no_lines c ∷ y ∷ []) (phrase_found 64 f body was),
+    )
 always_parts (c ∷ f ∷ g ∷ parts) w e = absurd cc
 
 pub query_parts : (parts : List Sexp) (w : Written) → query_of parts ≡ Some w
@@ -223,8 +232,12 @@ query_parts (c ∷ d ∷ []) w e = absurd cc
 query_parts (c ∷ d ∷ f ∷ []) w e =
     let (name, is, rest) = first_found (name_in c) (λ n. scope_in d >>= λ xs. body_in f >>= λ b. Some (written.Query n xs b)) w e in
     let (vars, are, last) = first_found (scope_in d) (λ xs. body_in f >>= λ b. Some (written.Query name xs b)) w rest in
-    let (body, was, made) = first_found (body_in f) (λ b. Some (written.Query name vars b)) w last in
-    (name, vars, body, sym (some_is (written.Query name vars body) w made),
-        ap (λ y. y ∷ scope_sexp vars ∷ phrase_sexp body ∷ []) (name_found c name is) ∙ ap (λ y. no_lines c ∷ y ∷ phrase_sexp body ∷ []) (scope_found d vars are)
-        ∙ ap (λ y. no_lines c ∷ no_lines d ∷ y ∷ []) (phrase_found 64 f body was))
+    let (body, was, made) = first_found (body_in f) (λ b. Some (written.Query name vars b)) w last in (
+      name,
+      vars,
+      body,
+      sym (some_is (written.Query name vars body) w made),
+      ap (λ y. y ∷ scope_sexp vars ∷ phrase_sexp body ∷ []) (name_found c name is) ∙ ap (λ y. no_lines c ∷ y ∷ phrase_sexp body ∷ []) (scope_found d vars are)
+          ∙ ap (λ y. no_lines c ∷ no_lines d ∷ y ∷ []) (phrase_found 64 f body was),
+    )
 query_parts (c ∷ d ∷ f ∷ g ∷ parts) w e = absurd cc

@@ -19,7 +19,7 @@ use Rattle.dbn_net.specs.Judging.{Begun, arcs_counted, is_counted, judged}
 use Rattle.dbn_net.specs.WellFormed.{Passes}
 use Rattle.dbn_net.proofs.Maybes.{some_is, first_found, mapped_found}
 use Rattle.dbn_net.proofs.LinesLaws.{declaration_alike}
-use Rattle.dbn_net.proofs.AlikeLaws.{nesting_alike}
+use Rattle.dbn_sexp.proofs.LinesLaws.{nesting_alike}
 use Rattle.dbn_net.proofs.DeclaredAgain.{declaration_found}
 use Rattle.dbn_net.proofs.NamedLaws.{name_again, names_again, key_again}
 use Rattle.dbn_net.proofs.NamedFormulas.{formula_again}
@@ -68,9 +68,10 @@ pub passes_read : (before : List Decl) (begun : Begun) (one : Sexp) (w : Written
     → declaration_in one ≡ Some w → judged before begun w ≡ Ok (Part d) → nesting one.item ≤ 64
     → sexp_of w ≡ no_lines one → named before d ≡ w → Passes before d
 passes_read before begun one w d read tests nests printed again = record {
-    shape = subst (λ x. declaration_in (sexp_of x) ≡ Some x) (sym again) (ap declaration_in printed ∙ declaration_alike 0 one ∙ read);
-    tests = λ other. subst (λ x. judged before other x ≡ Ok (Part d)) (sym again) (same_tests before begun other w d tests);
-    nests = subst (λ x. nesting (sexp_of x).item ≤ 64) (sym again) (subst (λ k. k ≤ 64) (sym (ap (λ x. nesting x.item) printed ∙ nesting_alike 0 one.item)) nests) }
+  shape = subst (λ x. declaration_in (sexp_of x) ≡ Some x) (sym again) (ap declaration_in printed ∙ declaration_alike 0 one ∙ read);
+  tests = λ other. subst (λ x. judged before other x ≡ Ok (Part d)) (sym again) (same_tests before begun other w d tests);
+  nests = subst (λ x. nesting (sexp_of x).item ≤ 64) (sym again) (subst (λ k. k ≤ 64) (sym (ap (λ x. nesting x.item) printed ∙ nesting_alike 0 one.item)) nests);
+}
 
 -- what the reader has read and judged may be added
 pub read_passes : (before : List Decl) (begun : Begun) (one : Sexp) (w : Written) (d : Decl)

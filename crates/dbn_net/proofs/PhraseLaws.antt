@@ -13,7 +13,7 @@ use Rattle.dbn_net.specs.declared.written.Phrase.{Phrase}
 use Rattle.dbn_net.specs.declared.written.Phrase.TheVariants as phrase
 use Rattle.dbn_net.specs.declared.written.Written.{Written}
 use Rattle.dbn_net.specs.Maybe.{◌>>=◌, all_known}
-use Rattle.dbn_net.specs.PendingSexp.{list_in}
+use Rattle.dbn_sexp.specs.Parts.{list_in}
 use Rattle.dbn_net.specs.Forms.{Name, guard_step, is_guard, phrase_in, phrase_of, with_word, declared, declaration_in}
 use Rattle.dbn_net.specs.Printing.{form, term_sexp, comparison_word, scope_sexp, phrase_step, phrase_sexp}
 use Rattle.dbn_net.specs.Naming.{number_of, name_at, number_step, resolved_phrase, name_step, named_formula}

@@ -16,11 +16,11 @@ use Rattle.dbn_formula.proofs.ApartLaws.{apart_laws}
 use Rattle.dbn_formula.proofs.SafeLaws.{safe_laws}
 use Rattle.dbn_net.specs.declared.fault.NetKind.TheVariants as kind
 use Rattle.dbn_net.specs.Maybe.{◌>>=◌}
-use Rattle.dbn_net.specs.PendingSexp.{list_in}
+use Rattle.dbn_sexp.specs.Parts.{list_in}
 use Rattle.dbn_net.specs.Forms.{Name, phrase_in, phrase_of, with_word}
 use Rattle.dbn_net.specs.Printing.{word, constant}
 use Rattle.dbn_net.specs.Texts.{Start, Fault, fault, read_list}
-use Rattle.dbn_net.proofs.SexpParts.{part_laws}
+use Rattle.dbn_sexp.proofs.PartLaws.{part_laws}
 use Rattle.dbn_net.proofs.PhraseLaws.{declaration_is, phrase_deeper, sexp_laws, guard_laws, quantifies_laws, resolved_laws}
 use Rattle.dbn_net.proofs.AtomLaws.{short_laws, value_laws}
 

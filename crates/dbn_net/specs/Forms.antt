@@ -30,7 +30,7 @@ use Rattle.dbn_net.specs.declared.written.Clause.TheVariants.{Moves, Guards, Ask
 use Rattle.dbn_net.specs.declared.written.Written.{Written}
 use Rattle.dbn_net.specs.declared.written.Written.TheVariants as written
 use Rattle.dbn_net.specs.Maybe.{◌>>=◌, each, some, or_else, only_if}
-use Rattle.dbn_net.specs.PendingSexp.{word_in, constant_in, list_in}
+use Rattle.dbn_sexp.specs.Parts.{word_in, constant_in, list_in}
 
 abbrev pub Name : Type 0
 Name = List ℕ

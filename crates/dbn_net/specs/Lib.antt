@@ -1,12 +1,11 @@
 pub mod Maybe
-pub mod PendingSexp
-pub mod PendingFormula
 pub mod Forms
 pub mod Printing
 pub mod Tables
 pub mod Naming
 pub mod Sentences
 pub mod Judging
+pub mod Positions
 pub mod WellFormed
 pub mod Values
 pub mod Texts

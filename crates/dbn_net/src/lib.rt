@@ -3,6 +3,9 @@
 
 mod decl;
 mod fault;
+mod laws;
+mod names;
+mod net;
 mod rules;
 mod snapshot;
 mod violation;
@@ -11,6 +14,11 @@ mod written;
 
 pub use decl::{Decl, Decls, Entry, Place};
 pub use fault::NetKind;
+pub use laws::{
+    declarations_both_ways, enabled_rows_are_of_the_state, nets_fit, no_violation_is_consistent,
+    texts_are_read_again, what_was_read_may_follow,
+};
+pub use net::{Net, violations};
 pub use rules::{Arc, Arcs, Call, Flags, Pattern, Patterns, Read, Reads, Transition};
 pub use snapshot::Snapshot;
 pub use violation::{Label, Named, Violations};

@@ -1,0 +1,73 @@
+//! Laws of nets, as contracts of functions that do nothing.
+
+ghost use Rattle.std.specs.Prelude.{◌≡◌, ◌≤◌, ℕ, Bool, true, not, List, [], ◌∷◌, ◌++◌, map, Some, Ok, slice_get};
+ghost use Rattle.std.specs.List.{list_any};
+ghost use Rattle.dbn_value.specs.declared.value.Value.{Value};
+ghost use Rattle.dbn_value.specs.Ascending.{CellsIn};
+ghost use Rattle.dbn_value.specs.Members.{In};
+ghost use Rattle.dbn_sexp.specs.declared.sexp.Sexp.{Sexp};
+ghost use Rattle.dbn_sexp.specs.Printing.{nesting, on_lines};
+ghost use Rattle.dbn_sexp.specs.Reading.{reads as list_reads};
+ghost use Rattle.dbn_formula.specs.declared.formula.Formula.{Formula};
+ghost use Rattle.dbn_formula.specs.Holds.{Instance};
+ghost use Rattle.dbn_formula.specs.Answers.{holds};
+ghost use Rattle.dbn_formula.specs.Normal.{normal};
+ghost use Rattle.dbn_formula.specs.Solutions.{HasShape, AcceptsQuery, AcceptsSentence};
+ghost use Rattle.dbn_net.specs.declared.decl.Decl.{Decl};
+ghost use Rattle.dbn_net.specs.declared.decl.Decl.TheVariants.{Always};
+ghost use Rattle.dbn_net.specs.declared.decl.Entry.TheVariants.{Part};
+ghost use Rattle.dbn_net.specs.declared.rules.Transition.{Transition};
+ghost use Rattle.dbn_net.specs.declared.snapshot.Snapshot.{Snapshot};
+ghost use Rattle.dbn_net.specs.declared.violation.Named.{Named};
+ghost use Rattle.dbn_net.specs.declared.written.Written.{Written};
+ghost use Rattle.dbn_net.specs.Forms.{Name, declaration_in};
+ghost use Rattle.dbn_net.specs.Printing.{no_lines, sexp_of};
+ghost use Rattle.dbn_net.specs.Tables.{Question, queries, transitions, relation_shapes, types_of, shape_of};
+ghost use Rattle.dbn_net.specs.Naming.{resolved, named};
+ghost use Rattle.dbn_net.specs.Judging.{Begun, judged, is_counted};
+ghost use Rattle.dbn_net.specs.Sentences.{violations, consistent};
+ghost use Rattle.dbn_net.specs.WellFormed.{Passes, WellFormed, Fits};
+ghost use Rattle.dbn_net.specs.Values.{Marking, all_values};
+ghost use Rattle.dbn_net.specs.Enabled.{bound_part, enabled, values_for};
+ghost use Rattle.dbn_net.specs.Good.{Good};
+ghost use Rattle.dbn_net.specs.Texts.{canonical_list, ReadsAgain};
+
+/// No violation holds exactly where the net is consistent. Each violation is a normal form.
+pub fn no_violation_is_consistent()
+    ensures consistent { (net : List Decl) (db : Instance) → list_any (λ v. holds v.item db []) (violations net) ≡ not (consistent net db) }
+    ensures normal { (net : List Decl) (v : Named) → In v (violations net) → normal v.item ≡ v.item }
+{}
+
+/// What a net gives its transitions, queries and `always` sentences, over all that it declares.
+pub fn nets_fit()
+    ensures transitions { (net : List Decl) (n : ℕ) (t : Transition) → WellFormed net → slice_get (transitions net) n ≡ Some t → Fits net t }
+    ensures queries { (net : List Decl) (n : ℕ) (q : Question) → WellFormed net → slice_get (queries net) n ≡ Some q → AcceptsQuery (relation_shapes net) q.vars q.body }
+    ensures sentences { (net : List Decl) (name : Name) (body : Formula) → WellFormed net → In (Always name body) net → AcceptsSentence (relation_shapes net) body }
+{}
+
+/// The values of a row that enables a transition are values of the state and of the net, of the types of the bound variables.
+pub fn enabled_rows_are_of_the_state()
+    ensures cells { (net : List Decl) (t : Transition) (db : Instance) (marking : Marking) (row : List Value) → Fits net t → HasShape row (shape_of t)
+        → enabled net t db marking row ≡ true → CellsIn (bound_part t row) (map (values_for net db marking) (types_of t.bound)) }
+    ensures values { (net : List Decl) (t : Transition) (db : Instance) (marking : Marking) (row : List Value) → Fits net t → HasShape row (shape_of t)
+        → enabled net t db marking row ≡ true → (v : Value) → In v (bound_part t row) → In v (all_values net db marking) }
+{}
+
+/// A declaration is read on whatever lines it stands, what is read is printed as it was, and names are found again.
+pub fn declarations_both_ways()
+    ensures lines { (one : Sexp) → declaration_in (no_lines one) ≡ declaration_in one }
+    ensures printed { (one : Sexp) (w : Written) → declaration_in one ≡ Some w → sexp_of w ≡ no_lines one }
+    ensures names { (net : List Decl) (w : Written) (d : Decl) → resolved net w ≡ Some (Part d) → is_counted (Part d) ≡ true → named net d ≡ w }
+{}
+
+/// What was read and judged may follow the net.
+pub fn what_was_read_may_follow()
+    ensures { (before : List Decl) (begun : Begun) (one : Sexp) (w : Written) (d : Decl)
+        → declaration_in one ≡ Some w → judged before begun w ≡ Ok (Part d) → nesting one.item ≤ 64 → Passes before d }
+{}
+
+/// The text of a net and a good snapshot is read as the net with its facts and tokens, and with a first id that isn't above.
+pub fn texts_are_read_again()
+    ensures { (bytes : List ℕ) (net : List Decl) (s : Snapshot) → list_reads 64 bytes ≡ Ok (on_lines 1 (canonical_list net s.instance s.marking))
+        → WellFormed net → Good net s → ReadsAgain bytes net s.instance s.marking s.next }
+{}
