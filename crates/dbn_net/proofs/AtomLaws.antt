@@ -2,7 +2,6 @@
 use Rattle.std.proofs.Common.{◌≡◌, ℕ, true, List, [], ◌∷◌, ap, length}
 use Rattle.std.specs.Prelude.{nat_le}
 use Rattle.dbn_value.specs.declared.value.Value.{Value}
-use Rattle.dbn_sexp.specs.declared.sexp.Sexp.{Sexp}
 use Rattle.dbn_sexp.specs.declared.sexp.Item.TheVariants as item
 use Rattle.dbn_net.specs.Judging.{atom_short, is_short}
 use Rattle.dbn_net.specs.Texts.{atom_values, value_in}

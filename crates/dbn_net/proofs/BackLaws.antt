@@ -1,6 +1,6 @@
 -- Facts and tokens that are printed are read as they were; declarations of a net are read behind those before them.
-use Rattle.std.proofs.Common.{◌≡◌, ℕ, ℤ, true, List, [], ◌∷◌, ◌++◌, map, refl, sym, ap, subst, ◌∙◌, Option, Some, codes, append-nil, append_assoc}
-use Rattle.std.specs.Prelude.{Result, Ok, Err}
+use Rattle.std.proofs.Common.{◌≡◌, ℤ, true, List, [], ◌∷◌, ◌++◌, map, refl, sym, ap, subst, ◌∙◌, Some, codes, append-nil, append_assoc}
+use Rattle.std.specs.Prelude.{Ok}
 use Rattle.dbn_value.specs.Text.{is_identifier}
 use Rattle.dbn_value.specs.declared.value.Value.{Value}
 use Rattle.dbn_value.specs.declared.value.Value.TheVariants as value
@@ -10,12 +10,12 @@ use Rattle.dbn_net.specs.declared.written.Written.TheVariants as written
 use Rattle.dbn_net.specs.declared.decl.Decl.{Decl}
 use Rattle.dbn_net.specs.declared.decl.Entry.TheVariants.{Part}
 use Rattle.dbn_net.specs.Maybe.{◌>>=◌, each, only_if}
-use Rattle.dbn_sexp.specs.Parts.{word_in, constant_in, list_in}
-use Rattle.dbn_net.specs.Forms.{Name, with_word, name_in, int_of, int_in, fact_of, token_of, declared, declaration_in}
+use Rattle.dbn_sexp.specs.Parts.{constant_in}
+use Rattle.dbn_net.specs.Forms.{Name, with_word, name_in, int_of, int_in, declared, declaration_in}
 use Rattle.dbn_net.specs.Printing.{word, constant, form, sexp_of}
 use Rattle.dbn_net.specs.Naming.{named}
 use Rattle.dbn_net.specs.WellFormed.{Passes, AllPass, written_from}
-use Rattle.dbn_net.specs.Texts.{State, Fault, with_entry, taken_up, read_shape, read_one, read_each, and_then}
+use Rattle.dbn_net.specs.Texts.{State, with_entry, taken_up, read_shape, read_one, read_each, and_then}
 use Rattle.dbn_sexp.proofs.PartLaws.{word_name, constant_const, list_list}
 use Rattle.dbn_net.proofs.PhraseLaws.{declaration_is}
 

@@ -1,5 +1,5 @@
 -- Sentences, enabled rows and bindings, computed on small nets.
-use Rattle.std.proofs.Common.{◌≡◌, ℕ, pos, true, false, List, [], ◌∷◌, refl, Option, Some, None, codes}
+use Rattle.std.proofs.Common.{◌≡◌, ℕ, pos, true, false, List, [], ◌∷◌, refl, Some, None, codes}
 use Rattle.dbn_value.specs.declared.value.Value.{Value}
 use Rattle.dbn_value.specs.declared.value.Value.TheVariants.{Int, Text, Id}
 use Rattle.dbn_value.specs.declared.value.ColType.TheVariants as col
@@ -15,7 +15,7 @@ use Rattle.dbn_net.specs.declared.rules.Transition.{Transition}
 use Rattle.dbn_net.specs.declared.decl.Place.TheVariants.{Control, View}
 use Rattle.dbn_net.specs.declared.decl.Decl.{Decl}
 use Rattle.dbn_net.specs.declared.decl.Decl.TheVariants.{Relation, Key, Foreign, Query, Site, Trans}
-use Rattle.dbn_net.specs.Sentences.{first_var, second_var, sentences, consistent}
+use Rattle.dbn_net.specs.Sentences.{first_var, second_var, sentences}
 use Rattle.dbn_net.specs.Values.{Marking, next_after}
 use Rattle.dbn_net.specs.Enabled.{shown, bound_env, guard_holds, enabled, bindings}
 

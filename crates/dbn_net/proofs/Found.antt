@@ -1,11 +1,10 @@
 -- What is read is printed as it was, apart from the lines: words, names, constants, lists with a first word.
-use Rattle.std.proofs.Common.{◌≡◌, ℕ, zero, suc, Bool, true, false, if◌then◌else◌, List, [], ◌∷◌, map, refl, sym, ap, ◌∙◌, Option, Some, None, codes}
+use Rattle.std.proofs.Common.{◌≡◌, ℕ, suc, true, List, [], ◌∷◌, map, sym, ap, ◌∙◌, Option, Some, codes}
 use Rattle.std.specs.Option.{option_map}
 use Rattle.std.proofs.lemmas.Slice.Eq.{bytes_eq-Decides}
 use Rattle.dbn_value.specs.Text.{is_identifier}
 use Rattle.dbn_value.specs.declared.value.Value.{Value}
 use Rattle.dbn_sexp.specs.declared.sexp.Sexp.{Sexp}
-use Rattle.dbn_sexp.specs.declared.sexp.Item.TheVariants as item
 use Rattle.dbn_sexp.specs.Printing.{on_line}
 use Rattle.dbn_sexp.proofs.TreeLaws.{line_name, line_const, line_list}
 use Rattle.dbn_net.specs.declared.written.Phrase.{Phrase}

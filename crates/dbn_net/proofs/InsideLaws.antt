@@ -1,7 +1,7 @@
 -- The values of a row that enables a transition are values of the state and of the declarations, of the types of its variables.
-use Rattle.std.proofs.Common.{◌≡◌, ℕ, ◌+◌, ◌<◌, ◌≤◌, ◌^◌, zero, suc, Bool, true, false, cond, not, ◌&&◌, ◌||◌, if◌then◌else◌, List, [], ◌∷◌, ◌++◌, map, refl, sym, ap, ◌∙◌, subst, inl, inr, ⊎_elim, Option, Some, None, arith, leb, take, length}
-use Rattle.std.specs.Prelude.{slice_get, slice_index_or, nat_lt, nat_le}
-use Rattle.std.specs.List.{AllByRecursion, list_all, list_any, flat_map, filter}
+use Rattle.std.proofs.Common.{◌≡◌, ℕ, ◌<◌, ◌≤◌, zero, suc, Bool, true, false, cond, not, ◌&&◌, ◌||◌, if◌then◌else◌, List, [], ◌∷◌, ◌++◌, map, refl, sym, ap, ◌∙◌, subst, inl, inr, ⊎_elim, Option, Some, None, arith, leb, take, length}
+use Rattle.std.specs.Prelude.{slice_get, slice_index_or, nat_le}
+use Rattle.std.specs.List.{list_all, flat_map, filter}
 use Rattle.std.specs.Option.{unwrap_or, option_map_or}
 use Rattle.std.specs.Map.{lookup}
 use Rattle.std.specs.Ordering.{is_eq, nat_cmp, ordering_then}
@@ -10,7 +10,7 @@ use Rattle.std.specs.declared.cmp.Ordering.TheVariants.{Less, Equal, Greater}
 use Rattle.std.specs.FinMap.{IsAntisymmetric, nat_cmp-IsAntisymmetric}
 use Rattle.std.specs.Cmp.{IsTotalOrder, nat_cmp_total, on_total, then_total, Equal-is}
 use Rattle.std.specs.BTreeMap.{is_at}
-use Rattle.std.proofs.lemmas.Bool.{and_parts, leb-true, ltb-true, true≢false, not-true, or_parts}
+use Rattle.std.proofs.lemmas.Bool.{and_parts, leb-true, not-true, or_parts}
 use Rattle.std.proofs.lemmas.List.Sums.{sum_by-cons}
 use Rattle.dbn_value.specs.Members.{In}
 use Rattle.dbn_value.specs.Ascending.{ascending, CellsIn}
@@ -35,7 +35,7 @@ use Rattle.dbn_formula.proofs.VariableLaws.{in_of_is, type_itself, var_itself}
 use Rattle.dbn_formula.proofs.AnswersLaws.{in_answers}
 use Rattle.dbn_formula.proofs.SolutionLaws.{bind_other}
 use Rattle.dbn_instance.specs.declared.fact.Action.{Action}
-use Rattle.dbn_marking.specs.Counts.{place_of, count_at, count_of}
+use Rattle.dbn_marking.specs.Counts.{place_of, count_at}
 use Rattle.dbn_net.specs.declared.decl.Decl.{Decl}
 use Rattle.dbn_net.specs.declared.decl.Decl.TheVariants.{Relation, Key, Foreign, Always, Query, Act, Site, Trans}
 use Rattle.dbn_net.specs.declared.decl.Place.{Place}
@@ -49,7 +49,7 @@ use Rattle.dbn_net.specs.Tables.{Question, queries, query_in, actions, action_in
 use Rattle.dbn_net.specs.Judging.{is_count, arcs_counted}
 use Rattle.dbn_net.specs.Values.{Marking, decl_constants, fact_constants, token_values, rule_values, all_values}
 use Rattle.dbn_net.specs.Wants.{Spot, spot_cmp, spot_of, bound_token, bound_tokens, total_of, want_at, wants, contained}
-use Rattle.dbn_net.specs.Enabled.{view_rows, viewed, query_rows, is_read, guard_holds, bound_part, bound_env, enabled, values_for}
+use Rattle.dbn_net.specs.Enabled.{view_rows, viewed, is_read, guard_holds, bound_part, bound_env, enabled, values_for}
 use Rattle.dbn_net.specs.WellFormed.{Fits, arc_vars, read_vars, clause_vars}
 use Rattle.dbn_net.proofs.Maybes.{some_is}
 use Rattle.dbn_net.proofs.Listed.{in_filter_map, heads, tails}

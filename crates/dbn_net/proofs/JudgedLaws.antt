@@ -1,6 +1,6 @@
 -- What a declaration that was judged has passed.
-use Rattle.std.proofs.Common.{◌≡◌, ℕ, Bool, true, false, ◌&&◌, List, [], ◌∷◌, refl, sym, ap, subst, ◌∙◌, Option, Some, None}
-use Rattle.std.specs.Prelude.{Result, Ok, Err}
+use Rattle.std.proofs.Common.{◌≡◌, ℕ, Bool, true, false, List, refl, ap, subst, Option, Some, None}
+use Rattle.std.specs.Prelude.{Result, Ok}
 use Rattle.std.specs.Option.{option_map}
 use Rattle.dbn_net.specs.declared.fault.NetKind.{NetKind}
 use Rattle.dbn_net.specs.declared.fault.NetKind.TheVariants as kind

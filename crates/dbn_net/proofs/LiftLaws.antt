@@ -1,14 +1,13 @@
 -- What the declarations before a transition, a query or an action give it, the whole net gives it.
-use Rattle.std.proofs.Common.{◌≡◌, ℕ, ◌+◌, ◌<◌, zero, suc, Bool, true, false, not, ◌&&◌, List, [], ◌∷◌, ◌++◌, map, refl, sym, ap, subst, ◌∙◌, inl, inr, ⊎_elim, Option, Some, None, arith, length, length-append, append-nil, append_assoc}
-use Rattle.std.specs.Prelude.{slice_get, slice_index_or, nat_lt, Result, Ok}
-use Rattle.std.specs.List.{list_all, flat_map, filter_map}
+use Rattle.std.proofs.Common.{◌≡◌, ℕ, ◌+◌, ◌<◌, zero, suc, Bool, true, false, ◌&&◌, List, [], ◌∷◌, ◌++◌, map, refl, sym, ap, subst, ◌∙◌, ⊎_elim, Option, Some, None, arith, length, length-append, append-nil, append_assoc}
+use Rattle.std.specs.Prelude.{slice_get, nat_lt}
+use Rattle.std.specs.List.{list_all, filter_map}
 use Rattle.std.specs.Option.{option_map_or}
 use Rattle.std.proofs.lemmas.Bool.{and_parts, and_from, ltb-true, lt-ltb}
 use Rattle.std.proofs.lemmas.List.{map-append, length-map}
 use Rattle.std.proofs.lemmas.List.Elements.{filter_map-append}
 use Rattle.dbn_value.specs.Members.{In}
 use Rattle.dbn_value.specs.declared.value.ColType.{ColType}
-use Rattle.dbn_value.specs.declared.term.Var.{Var}
 use Rattle.dbn_value.specs.declared.term.Term.{Term}
 use Rattle.dbn_value.proofs.MemberLaws.{all_at, all_from, in_at}
 use Rattle.dbn_formula.specs.Variables.{TypedVars, is_in}
@@ -25,8 +24,6 @@ use Rattle.dbn_instance.specs.declared.fact.Action.{Action}
 use Rattle.dbn_instance.specs.declared.fact.FactPattern.{FactPattern}
 use Rattle.dbn_net.specs.declared.written.Phrase.{Phrase}
 use Rattle.dbn_net.specs.declared.written.Group.{Group}
-use Rattle.dbn_net.specs.declared.written.Written.{Written}
-use Rattle.dbn_net.specs.declared.written.Written.TheVariants as written
 use Rattle.dbn_net.specs.declared.rules.Arc.{Arc}
 use Rattle.dbn_net.specs.declared.rules.Pattern.{Pattern}
 use Rattle.dbn_net.specs.declared.rules.Read.{Read}
@@ -36,17 +33,16 @@ use Rattle.dbn_net.specs.declared.decl.Place.{Place}
 use Rattle.dbn_net.specs.declared.decl.Place.TheVariants as place
 use Rattle.dbn_net.specs.declared.decl.Decl.{Decl}
 use Rattle.dbn_net.specs.declared.decl.Decl.TheVariants.{Relation, Key, Foreign, Always, Query, Act, Site, Trans}
-use Rattle.dbn_net.specs.declared.decl.Entry.{Entry}
 use Rattle.dbn_net.specs.declared.decl.Entry.TheVariants.{Part}
-use Rattle.dbn_net.specs.Maybe.{◌>>=◌, each}
+use Rattle.dbn_net.specs.Maybe.{each}
 use Rattle.dbn_net.specs.Forms.{Name}
-use Rattle.dbn_net.specs.Tables.{Question, Table, relation_in, query_in, action_in, place_in, transition_in, relations, queries, actions, places, transitions, relation_names, query_names, columns, types_of, relation_shape, relation_shapes, query_shapes, action_shapes, place_shape, place_shapes, scope_of, is_control, is_view, has_place}
-use Rattle.dbn_net.specs.Naming.{number_of, name_at, resolved_phrase, named_formula, transition, rule, fact_pattern, pattern_group, resolved_action, resolved, named}
-use Rattle.dbn_net.specs.Judging.{Begun, all_patterns, all_facts, all_terms, as_many, terms_bound, arcs_counted, judged, no_duplicate, rule_once, once, scope_names, is_new, quantifies_once}
+use Rattle.dbn_net.specs.Tables.{Question, relation_in, query_in, action_in, place_in, transition_in, relations, queries, actions, places, transitions, relation_names, query_names, columns, types_of, relation_shape, relation_shapes, query_shapes, action_shapes, place_shape, place_shapes, scope_of, is_control, is_view, has_place}
+use Rattle.dbn_net.specs.Naming.{number_of, name_at, resolved_phrase, named_formula, transition, rule, fact_pattern, pattern_group, resolved_action, named}
+use Rattle.dbn_net.specs.Judging.{Begun, all_patterns, all_facts, all_terms, as_many, terms_bound, arcs_counted, rule_once}
 use Rattle.dbn_net.specs.WellFormed.{Passes, AllPass, WellFormed, terms_in, guard_in, transition_typed, arcs_known, transition_known, transition_scoped, facts_known, action_fits, Fits}
 use Rattle.dbn_net.proofs.Maybes.{some_is, first_found, mapped_found}
 use Rattle.dbn_net.proofs.NamedLaws.{number_within}
-use Rattle.dbn_net.proofs.JudgedLaws.{Judged, Passed, judged_is}
+use Rattle.dbn_net.proofs.JudgedLaws.{Judged, judged_is}
 use Rattle.dbn_net.proofs.Listed.{each_all, given_all, in_filter_map, index_kept, get_kept}
 use Rattle.dbn_net.proofs.MadeLaws.{Made, was_made, numbers_known, below_mapped, phrase_known, guard_arity}
 use Rattle.dbn_net.proofs.Scoped.{scoped, once_distinct}

@@ -4,7 +4,6 @@ use Rattle.std.specs.Option.{option_map}
 use Rattle.dbn_value.specs.Text.{is_identifier}
 use Rattle.dbn_value.specs.declared.term.Cmp.{Cmp}
 use Rattle.dbn_sexp.specs.declared.sexp.Sexp.{Sexp}
-use Rattle.dbn_sexp.specs.Printing.{on_line}
 use Rattle.dbn_sexp.proofs.LinesLaws.{lined, word_alike, constant_alike, list_alike}
 use Rattle.dbn_net.specs.declared.written.Phrase.{Phrase}
 use Rattle.dbn_net.specs.declared.written.Rule.{Rule}

@@ -5,9 +5,6 @@ use Rattle.std.specs.List.{list_all, AllByRecursion}
 use Rattle.std.specs.Option.{option_map_or}
 use Rattle.std.proofs.lemmas.Bool.{and_from, lt-ltb}
 use Rattle.std.proofs.lemmas.List.{length-map}
-use Rattle.dbn_value.specs.declared.value.ColType.{ColType}
-use Rattle.dbn_value.specs.declared.term.Var.{Var}
-use Rattle.dbn_formula.specs.Variables.{TypedVars}
 use Rattle.dbn_formula.specs.Typing.{Shapes, arity_fits}
 use Rattle.dbn_formula.specs.Written.{of_first}
 use Rattle.dbn_formula.specs.declared.formula.Formula.{Formula}
@@ -28,7 +25,7 @@ use Rattle.dbn_net.specs.Maybe.{◌>>=◌, each, all_known, if_given, only_if}
 use Rattle.dbn_net.specs.Forms.{Name}
 use Rattle.dbn_net.specs.Tables.{actions, action_names, places, place_names, is_control, is_view, has_place}
 use Rattle.dbn_net.specs.Naming.{number_of, site_if, control_number, view_number, resolved_phrase, pattern, arc, read, call, is_in_clause, ins_of, reads_of, bound_of, transition}
-use Rattle.dbn_net.specs.WellFormed.{arcs_known, transition_known}
+use Rattle.dbn_net.specs.WellFormed.{transition_known}
 use Rattle.dbn_net.proofs.Maybes.{some_is, first_found, if_found, mapped_found}
 use Rattle.dbn_net.proofs.PhraseFolds.{Steps, induction}
 use Rattle.dbn_net.proofs.PhraseLaws.{resolved_atom, resolved_test, resolved_and, resolved_or, resolved_not, resolved_implies, resolved_exists, resolved_forall}

@@ -1,5 +1,5 @@
 -- A formula with numbers is written with its names again.
-use Rattle.std.proofs.Common.{◌≡◌, ℕ, List, [], ◌∷◌, map, refl, sym, ap, ◌∙◌, Option, Some, None}
+use Rattle.std.proofs.Common.{◌≡◌, List, [], ◌∷◌, map, sym, ap, ◌∙◌, Some}
 use Rattle.std.specs.List.{AllByRecursion}
 use Rattle.dbn_formula.specs.declared.formula.Formula.{Formula}
 use Rattle.dbn_formula.specs.declared.formula.Formula.TheVariants as formula
@@ -7,7 +7,7 @@ use Rattle.dbn_net.specs.declared.written.Phrase.{Phrase}
 use Rattle.dbn_net.specs.declared.written.Phrase.TheVariants as phrase
 use Rattle.dbn_net.specs.Maybe.{◌>>=◌, all_known}
 use Rattle.dbn_net.specs.Forms.{Name}
-use Rattle.dbn_net.specs.Naming.{number_of, name_at, resolved_phrase, named_formula}
+use Rattle.dbn_net.specs.Naming.{number_of, resolved_phrase, named_formula}
 use Rattle.dbn_net.proofs.Maybes.{some_is, first_found, mapped_found}
 use Rattle.dbn_net.proofs.PhraseFolds.{Steps, induction}
 use Rattle.dbn_net.proofs.PhraseLaws.{resolved_atom, resolved_test, resolved_and, resolved_or, resolved_not, resolved_implies, resolved_exists, resolved_forall, named_atom, named_test, named_and, named_or, named_not, named_implies, named_exists, named_forall}

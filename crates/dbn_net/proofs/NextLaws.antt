@@ -1,5 +1,5 @@
 -- The first id that no value of a list has, good snapshots with a later next id, and rows that are looked at in part.
-use Rattle.std.proofs.Common.{◌≡◌, ℕ, ◌<◌, ◌≤◌, ◌^◌, zero, suc, Bool, true, ◌&&◌, List, [], ◌∷◌, refl, ap, arith, length, take}
+use Rattle.std.proofs.Common.{◌≡◌, ℕ, ◌<◌, ◌≤◌, ◌^◌, zero, suc, true, List, [], ◌∷◌, refl, ap, arith, length, take}
 use Rattle.std.specs.Prelude.{max}
 use Rattle.std.proofs.lemmas.Bool.{and_parts, and_from, ltb-true, lt-ltb}
 use Rattle.dbn_value.specs.declared.value.Value.{Value}

@@ -1,5 +1,5 @@
 -- What is read as a formula, an `always` or a query is printed as it was, apart from the lines.
-use Rattle.std.proofs.Common.{◌≡◌, ℕ, zero, suc, Bool, true, false, ◌||◌, if◌then◌else◌, List, [], ◌∷◌, map, refl, sym, ap, ◌∙◌, ◌⊎◌, ⊎_elim, Option, Some, None, codes}
+use Rattle.std.proofs.Common.{◌≡◌, ℕ, zero, suc, Bool, true, false, ◌||◌, if◌then◌else◌, List, [], ◌∷◌, map, refl, sym, ap, ◌∙◌, ⊎_elim, Option, Some, None, codes}
 use Rattle.std.specs.Option.{option_map}
 use Rattle.dbn_value.specs.Text.{is_identifier}
 use Rattle.dbn_value.specs.declared.value.ColType.{ColType}
@@ -14,7 +14,7 @@ use Rattle.dbn_net.specs.declared.written.Phrase.{Phrase}
 use Rattle.dbn_net.specs.declared.written.Phrase.TheVariants as phrase
 use Rattle.dbn_net.specs.declared.written.Written.{Written}
 use Rattle.dbn_net.specs.declared.written.Written.TheVariants as written
-use Rattle.dbn_net.specs.Maybe.{◌>>=◌, each, some, or_else}
+use Rattle.dbn_net.specs.Maybe.{◌>>=◌, each, some}
 use Rattle.dbn_sexp.specs.Parts.{word_in, constant_in, list_in}
 use Rattle.dbn_net.specs.Forms.{is_word, name_in, variable, variable_in, term_in, type_of, type_in, typed_of, typed_in, typed_variable_in, scope_in, some_scope_in, is_connective, comparison_of, test_of, atom_of, compared_or_atom, two_of, quantified_of, connected, phrase_of, phrase_in, body_in, always_of, query_of}
 use Rattle.dbn_net.specs.Printing.{no_lines, word, form, term_sexp, type_word, type_sexp, typed_sexp, scope_sexp, comparison_word, phrase_sexp}

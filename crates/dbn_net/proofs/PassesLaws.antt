@@ -1,6 +1,6 @@
 -- A declaration that was read and judged may follow the net.
-use Rattle.std.proofs.Common.{◌≡◌, ℕ, ◌≤◌, Bool, true, ◌&&◌, List, [], ◌∷◌, map, refl, sym, ap, subst, ◌∙◌, Option, Some, None}
-use Rattle.std.specs.Prelude.{Result, Ok}
+use Rattle.std.proofs.Common.{◌≡◌, ◌≤◌, true, ◌&&◌, List, sym, ap, subst, ◌∙◌, Some}
+use Rattle.std.specs.Prelude.{Ok}
 use Rattle.std.proofs.lemmas.Bool.{and_parts}
 use Rattle.dbn_sexp.specs.declared.sexp.Sexp.{Sexp}
 use Rattle.dbn_sexp.specs.Printing.{nesting}
@@ -9,7 +9,6 @@ use Rattle.dbn_net.specs.declared.written.Written.TheVariants as written
 use Rattle.dbn_net.specs.declared.decl.Place.TheVariants as place
 use Rattle.dbn_net.specs.declared.decl.Decl.{Decl}
 use Rattle.dbn_net.specs.declared.decl.Decl.TheVariants as decl
-use Rattle.dbn_net.specs.declared.decl.Entry.{Entry}
 use Rattle.dbn_net.specs.declared.decl.Entry.TheVariants.{Part, Fact, Tokens}
 use Rattle.dbn_net.specs.Forms.{Name, declaration_in}
 use Rattle.dbn_net.specs.Printing.{no_lines, sexp_of}

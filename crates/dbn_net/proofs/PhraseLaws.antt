@@ -1,5 +1,5 @@
 -- What the folds over formulas with names give at each variant, and the parser of formulas at each depth.
-use Rattle.std.proofs.Common.{◌≡◌, ℕ, zero, suc, Bool, true, false, ◌&&◌, List, [], ◌∷◌, map, ap, sym, refl, ◌∙◌, Option, Some, None, codes}
+use Rattle.std.proofs.Common.{◌≡◌, ℕ, zero, suc, Bool, true, false, ◌&&◌, List, [], ◌∷◌, map, refl, Option, Some, None, codes}
 use Rattle.std.specs.Option.{option_map}
 use Rattle.std.specs.List.{list_all}
 use Rattle.dbn_value.specs.declared.term.Term.{Term}
@@ -11,7 +11,6 @@ use Rattle.dbn_formula.proofs.Folds as folds
 use Rattle.dbn_sexp.specs.declared.sexp.Sexp.{Sexp}
 use Rattle.dbn_net.specs.declared.written.Phrase.{Phrase}
 use Rattle.dbn_net.specs.declared.written.Phrase.TheVariants as phrase
-use Rattle.dbn_net.specs.declared.written.Written.{Written}
 use Rattle.dbn_net.specs.Maybe.{◌>>=◌, all_known}
 use Rattle.dbn_sexp.specs.Parts.{list_in}
 use Rattle.dbn_net.specs.Forms.{Name, guard_step, is_guard, phrase_in, phrase_of, with_word, declared, declaration_in}

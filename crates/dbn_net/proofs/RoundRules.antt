@@ -1,6 +1,6 @@
 -- The ids of a declaration as it is written are below where those of its constants are.
-use Rattle.std.proofs.Common.{◌≡◌, ℕ, Bool, true, false, ◌&&◌, List, [], ◌∷◌, ◌++◌, map, refl, sym, ap, subst, ◌∙◌, Option, Some, None, pos, codes}
-use Rattle.std.specs.List.{list_all, flat_map, AllByRecursion}
+use Rattle.std.proofs.Common.{◌≡◌, ℕ, Bool, true, false, List, [], ◌∷◌, ◌++◌, map, refl, sym, ap, ◌∙◌, Option, Some, None, pos, codes}
+use Rattle.std.specs.List.{flat_map, AllByRecursion}
 use Rattle.std.specs.Option.{option_map, option_map_or}
 use Rattle.std.proofs.lemmas.Bool.{and_parts, and_from}
 use Rattle.dbn_value.specs.declared.value.Value.{Value}
@@ -13,13 +13,10 @@ use Rattle.dbn_sexp.specs.declared.sexp.Sexp.{Sexp}
 use Rattle.dbn_formula.specs.Variables.{TypedVars}
 use Rattle.dbn_formula.specs.Answers.{constant_of, constants}
 use Rattle.dbn_formula.specs.declared.formula.Formula.{Formula}
-use Rattle.dbn_formula.specs.declared.formula.Formula.TheVariants as formula
 use Rattle.dbn_formula.proofs.Induction.{Steps, induction}
 use Rattle.dbn_formula.proofs.ConstantsLaws.{constants_atom, constants_test, constants_and, constants_or, constants_not, constants_implies, constants_exists, constants_forall}
 use Rattle.dbn_instance.specs.declared.fact.FactPattern.{FactPattern}
-use Rattle.dbn_net.specs.declared.written.Phrase.TheVariants as phrase
 use Rattle.dbn_net.specs.declared.written.Group.{Group}
-use Rattle.dbn_net.specs.declared.written.Parts.{Parts}
 use Rattle.dbn_net.specs.declared.rules.Pattern.{Pattern}
 use Rattle.dbn_net.specs.declared.rules.Arc.{Arc}
 use Rattle.dbn_net.specs.declared.rules.Read.{Read}

@@ -1,15 +1,12 @@
 -- What is read as the clauses of a transition is printed as they were, apart from the lines.
-use Rattle.std.proofs.Common.{◌≡◌, ℕ, ◌+◌, ◌<◌, ◌≤◌, zero, suc, Bool, true, false, ◌&&◌, ◌||◌, ◌==◌, if◌then◌else◌, List, [], ◌∷◌, ◌++◌, map, refl, sym, ap, ◌∙◌, ⊎_elim, Option, Some, None, codes, arith, append-nil, append_assoc}
+use Rattle.std.proofs.Common.{◌≡◌, ℕ, ◌<◌, ◌≤◌, Bool, true, false, ◌&&◌, ◌==◌, if◌then◌else◌, List, [], ◌∷◌, ◌++◌, map, refl, sym, ap, ◌∙◌, ⊎_elim, Some, None, codes, arith, append-nil, append_assoc}
 use Rattle.std.specs.Prelude.{nat_lt}
 use Rattle.std.proofs.lemmas.Bool.{and_parts, or_cases, ltb-true, eqb-true}
 use Rattle.std.proofs.lemmas.List.{map-append}
-use Rattle.dbn_value.specs.declared.value.ColType.{ColType}
-use Rattle.dbn_value.specs.declared.term.Var.{Var}
 use Rattle.dbn_sexp.specs.declared.sexp.Sexp.{Sexp}
 use Rattle.dbn_net.specs.declared.written.Rule.{Rule}
 use Rattle.dbn_net.specs.declared.written.Clause.{Clause}
 use Rattle.dbn_net.specs.declared.written.Clause.TheVariants.{Moves, Guards, Asks, Draws, Calls, Puts, Returns}
-use Rattle.dbn_net.specs.Maybe.{◌>>=◌}
 use Rattle.dbn_net.specs.Forms.{clause_in, rank, repeats, follows, with_clause, clause_step, clauses_from}
 use Rattle.dbn_net.specs.Printing.{no_lines, word, form, variable_sexp, typed_variable_sexp, phrase_sexp, group_parts, heap_parts, move_sexp, guard_sexps, ask_sexps, fresh_sexps, call_sexps, rule_parts}
 use Rattle.dbn_net.proofs.Maybes.{some_is, first_found, if_found}

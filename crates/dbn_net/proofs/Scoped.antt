@@ -1,5 +1,5 @@
 -- The variables of a transition that was made from names: each once, the bound ones from its `in` and `read` clauses.
-use Rattle.std.proofs.Common.{◌≡◌, ℕ, Bool, true, false, not, ◌&&◌, List, [], ◌∷◌, ◌++◌, map, refl, sym, ap, subst, ◌∙◌, ◌⊎◌, inl, inr, ⊎_elim, Option, Some, None}
+use Rattle.std.proofs.Common.{◌≡◌, Bool, true, false, not, List, [], ◌∷◌, ◌++◌, map, refl, sym, ap, subst, ◌∙◌, ◌⊎◌, inl, inr, ⊎_elim, Some}
 use Rattle.std.specs.List.{list_all, list_any, flat_map, filter}
 use Rattle.std.proofs.lemmas.Bool.{and_parts, and_from, not-true}
 use Rattle.std.proofs.lemmas.List.{map-append}
@@ -29,11 +29,11 @@ use Rattle.dbn_net.specs.declared.rules.Read.{Read}
 use Rattle.dbn_net.specs.declared.rules.Transition.{Transition}
 use Rattle.dbn_net.specs.declared.decl.Decl.{Decl}
 use Rattle.dbn_net.specs.Forms.{Name}
-use Rattle.dbn_net.specs.Tables.{places, place_shapes, place_names, given, with_type, scope_of, is_control, is_view}
-use Rattle.dbn_net.specs.Naming.{control_number, view_number, pattern, arc, read, ins_of, reads_of, typed_occurrences, columns_at, move_occurrences, first_typed, bound_of, transition}
+use Rattle.dbn_net.specs.Tables.{place_shapes, given, with_type, scope_of}
+use Rattle.dbn_net.specs.Naming.{control_number, view_number, pattern, arc, read, ins_of, reads_of, typed_occurrences, columns_at, move_occurrences, first_typed, bound_of}
 use Rattle.dbn_net.specs.Judging.{is_new, once_behind, once, var_names, scope_names, move_vars, bound_vars, rule_once}
 use Rattle.dbn_net.specs.WellFormed.{arc_vars, read_vars, clause_vars, transition_scoped}
-use Rattle.dbn_net.proofs.Maybes.{some_is, mapped_found}
+use Rattle.dbn_net.proofs.Maybes.{mapped_found}
 use Rattle.dbn_net.proofs.Listed.{each_flat, map_flat, map_filter}
 use Rattle.dbn_net.proofs.MadeLaws.{Made}
 

@@ -1,14 +1,11 @@
 -- What small net texts are read as.
-use Rattle.std.proofs.Common.{◌≡◌, ℕ, zero, suc, true, false, List, [], ◌∷◌, map, refl, ap, ◌∙◌, Option, Some, None, codes, replicate, pos}
-use Rattle.std.specs.Prelude.{Result, Ok, Err}
-use Rattle.dbn_value.specs.declared.value.Value.{Value}
+use Rattle.std.proofs.Common.{◌≡◌, ℕ, List, [], ◌∷◌, refl, codes, replicate, pos}
+use Rattle.std.specs.Prelude.{Result, Ok}
 use Rattle.dbn_value.specs.declared.value.Value.TheVariants.{Int, Text, Id}
 use Rattle.dbn_sexp.specs.declared.sexp.Sexp.{Sexp}
 use Rattle.dbn_sexp.specs.declared.sexp.Item.TheVariants as item
-use Rattle.dbn_sexp.specs.Reading as sexps
 use Rattle.dbn_sexp.proofs.TreeLaws.{atoms_laws}
 use Rattle.dbn_formula.proofs.HoldsLaws.{holds_laws}
-use Rattle.dbn_formula.proofs.ConstantsLaws.{constants_laws}
 use Rattle.dbn_formula.proofs.NormalLaws.{normal_laws}
 use Rattle.dbn_formula.proofs.FreeLaws.{occurrences_laws}
 use Rattle.dbn_formula.proofs.TypingLaws.{typing_laws}
@@ -22,7 +19,7 @@ use Rattle.dbn_net.specs.Printing.{word, constant}
 use Rattle.dbn_net.specs.Texts.{Start, Fault, fault, read_list}
 use Rattle.dbn_sexp.proofs.PartLaws.{part_laws}
 use Rattle.dbn_net.proofs.PhraseLaws.{declaration_is, phrase_deeper, sexp_laws, guard_laws, quantifies_laws, resolved_laws}
-use Rattle.dbn_net.proofs.AtomLaws.{short_laws, value_laws}
+use Rattle.dbn_net.proofs.AtomLaws.{short_laws}
 
 -- ---- texts as lists, one declaration a line
 

@@ -1,5 +1,5 @@
 -- What a place shows, and which rows enable a transition.
-use Rattle.std.specs.Prelude.{ℕ, Bool, true, false, ◌&&◌, List, [], ◌∷◌, map, take, drop, length, Option, Some, None, slice_get}
+use Rattle.std.specs.Prelude.{ℕ, Bool, true, false, ◌&&◌, List, [], map, take, drop, length, slice_get}
 use Rattle.std.specs.List.{filter, list_any, list_all}
 use Rattle.std.specs.Option.{option_map_or}
 use Rattle.dbn_value.specs.Ascending.{ascending, rows_over}

@@ -1,6 +1,6 @@
 -- The declarations that S-expressions are. `X_in` reads one S-expression, `X_of` the parts of a list; each gives nothing where
 -- it is none. `word` is the first name of a list, which tells what the list is.
-use Rattle.std.specs.Prelude.{ℕ, zero, suc, ℤ, Bool, true, false, not, ◌&&◌, ◌||◌, ◌==◌, nat_lt, if◌then◌else◌, List, [], ◌∷◌, ◌++◌, Option, Some, None, codes, bytes_eq}
+use Rattle.std.specs.Prelude.{ℕ, zero, suc, ℤ, Bool, true, false, ◌&&◌, ◌||◌, ◌==◌, nat_lt, if◌then◌else◌, List, [], ◌∷◌, ◌++◌, Option, Some, None, codes, bytes_eq}
 use Rattle.std.specs.Option.{option_map}
 use Rattle.std.specs.List.{list_all}
 use Rattle.dbn_value.specs.Text.{is_identifier}
@@ -22,7 +22,6 @@ use Rattle.dbn_net.specs.declared.written.Phrase.TheFolds.{fold-Phrase}
 use Rattle.dbn_net.specs.declared.written.Group.{Group}
 use Rattle.dbn_net.specs.declared.written.Heap.{Heap}
 use Rattle.dbn_net.specs.declared.written.Parts.{Parts}
-use Rattle.dbn_net.specs.declared.written.Move.{Move}
 use Rattle.dbn_net.specs.declared.written.Move.TheVariants as move
 use Rattle.dbn_net.specs.declared.written.Rule.{Rule}
 use Rattle.dbn_net.specs.declared.written.Clause.{Clause}

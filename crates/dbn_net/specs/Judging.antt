@@ -1,5 +1,5 @@
 -- The tests of a declaration behind those that were declared before. The kind of a fault is that of the first test that fails.
-use Rattle.std.specs.Prelude.{ℕ, Bool, true, false, not, ◌&&◌, ◌==◌, nat_le, nat_lt, if◌then◌else◌, List, [], ◌∷◌, ◌++◌, map, length, Option, Some, None, Result, Ok, Err, slice_get, slice_index_or}
+use Rattle.std.specs.Prelude.{ℕ, Bool, true, not, ◌&&◌, ◌==◌, nat_le, nat_lt, if◌then◌else◌, List, [], ◌∷◌, ◌++◌, map, length, Option, Some, None, Result, Ok, Err, slice_get}
 use Rattle.std.specs.List.{filter_map, flat_map, list_any, list_all}
 use Rattle.std.specs.Option.{option_map_or}
 use Rattle.dbn_value.specs.Names.{name_eq}

@@ -1,11 +1,10 @@
 -- Numbers for names, by what was declared before, and names for numbers.
-use Rattle.std.specs.Prelude.{ℕ, ℤ, pos, negsuc, Bool, true, false, not, if◌then◌else◌, List, [], ◌∷◌, ◌++◌, map, Option, Some, None, slice_get, slice_index_or}
-use Rattle.std.specs.List.{filter, filter_map, flat_map, list_any, position}
-use Rattle.std.specs.Option.{option_map, option_map_or, unwrap_or}
+use Rattle.std.specs.Prelude.{ℕ, ℤ, pos, negsuc, Bool, true, false, not, List, [], ◌∷◌, ◌++◌, map, Option, Some, None, slice_get, slice_index_or}
+use Rattle.std.specs.List.{filter, filter_map, flat_map, position}
+use Rattle.std.specs.Option.{option_map, option_map_or}
 use Rattle.dbn_value.specs.Names.{name_eq}
 use Rattle.dbn_value.specs.declared.value.ColType.{ColType}
 use Rattle.dbn_value.specs.declared.value.ColType.TheVariants as col
-use Rattle.dbn_value.specs.declared.term.Var.{Var}
 use Rattle.dbn_value.specs.declared.term.Term.{Term}
 use Rattle.dbn_value.specs.declared.term.Term.TheVariants as term
 use Rattle.dbn_formula.specs.Variables.{TypedVars, var_eq}
@@ -16,7 +15,6 @@ use Rattle.dbn_formula.specs.declared.formula.Formula.TheOpen.{Formula-F}
 use Rattle.dbn_formula.specs.declared.formula.Formula.TheOpen as numbered
 use Rattle.dbn_formula.specs.declared.formula.Formula.TheFolds.{fold-Formula}
 use Rattle.dbn_instance.specs.declared.fact.FactPattern.{FactPattern}
-use Rattle.dbn_instance.specs.declared.fact.Action.{Action}
 use Rattle.dbn_net.specs.declared.written.Phrase.{Phrase}
 use Rattle.dbn_net.specs.declared.written.Phrase.TheVariants as phrase
 use Rattle.dbn_net.specs.declared.written.Phrase.TheOpen.{Phrase-F}

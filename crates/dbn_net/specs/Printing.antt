@@ -1,5 +1,5 @@
 -- Declarations as S-expressions: the way back from what is read. All stand on line 0.
-use Rattle.std.specs.Prelude.{ℕ, List, [], ◌∷◌, ◌++◌, map, Option, Some, None, codes}
+use Rattle.std.specs.Prelude.{List, [], ◌∷◌, ◌++◌, map, Option, Some, None, codes}
 use Rattle.dbn_value.specs.declared.value.Value.{Value}
 use Rattle.dbn_value.specs.declared.value.Value.TheVariants as value
 use Rattle.dbn_value.specs.declared.value.ColType.{ColType}

@@ -1,8 +1,8 @@
 -- A net is the list of its declarations. What it declares of each kind stands in order; a number is a place in such a list.
 -- A number out of range has no columns and no rows.
-use Rattle.std.specs.Prelude.{ℕ, Bool, true, false, if◌then◌else◌, List, [], ◌∷◌, ◌++◌, map, Option, Some, None, slice_get, slice_index_or}
+use Rattle.std.specs.Prelude.{ℕ, Bool, true, false, List, [], ◌++◌, map, Option, Some, None, slice_get, slice_index_or}
 use Rattle.std.specs.List.{filter_map}
-use Rattle.std.specs.Option.{option_map, option_map_or}
+use Rattle.std.specs.Option.{option_map_or}
 use Rattle.dbn_value.specs.declared.value.ColType.{ColType}
 use Rattle.dbn_value.specs.declared.value.ColType.TheVariants as col
 use Rattle.dbn_value.specs.declared.term.Var.{Var}
@@ -14,7 +14,7 @@ use Rattle.dbn_net.specs.declared.rules.Transition.{Transition}
 use Rattle.dbn_net.specs.declared.decl.Place.{Place}
 use Rattle.dbn_net.specs.declared.decl.Place.TheVariants.{Control, View}
 use Rattle.dbn_net.specs.declared.decl.Decl.{Decl}
-use Rattle.dbn_net.specs.declared.decl.Decl.TheVariants.{Relation, Key, Foreign, Always, Query, Act, Site, Trans}
+use Rattle.dbn_net.specs.declared.decl.Decl.TheVariants.{Relation, Always, Query, Act, Site, Trans}
 use Rattle.dbn_net.specs.Forms.{Name}
 
 -- a relation: its name and its columns

@@ -1,5 +1,5 @@
 -- The net and the start snapshot that a text is read as, or its first fault; and the one text of a net and a state.
-use Rattle.std.specs.Prelude.{◌≡◌, ℕ, ◌+◌, ◌≤◌, Bool, if◌then◌else◌, List, [], ◌∷◌, ◌++◌, map, Option, Some, None, Result, Ok, Err}
+use Rattle.std.specs.Prelude.{◌≡◌, ℕ, ◌+◌, ◌≤◌, if◌then◌else◌, List, [], ◌∷◌, ◌++◌, map, Option, Some, None, Result, Ok, Err}
 use Rattle.std.specs.List.{flat_map, zip}
 use Rattle.dbn_value.specs.Order.{value_cmp, row_cmp}
 use Rattle.dbn_value.specs.declared.value.Value.{Value}

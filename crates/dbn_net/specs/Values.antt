@@ -1,5 +1,5 @@
 -- The values that are written in a net, and the values of a state.
-use Rattle.std.specs.Prelude.{ℕ, ◌+◌, max, Bool, true, nat_lt, List, [], ◌∷◌, ◌++◌, Option}
+use Rattle.std.specs.Prelude.{ℕ, ◌+◌, max, Bool, true, nat_lt, List, [], ◌∷◌, ◌++◌}
 use Rattle.std.specs.List.{flat_map, list_all}
 use Rattle.std.specs.Option.{option_map_or}
 use Rattle.dbn_value.specs.declared.value.Value.{Value}

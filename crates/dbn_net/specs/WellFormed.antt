@@ -1,5 +1,5 @@
 -- Which declarations may follow a net, and what follows from it.
-use Rattle.std.specs.Prelude.{◌≡◌, ℕ, ◌≤◌, Bool, true, ◌&&◌, nat_lt, List, [], ◌∷◌, ◌++◌, length, Option, Some, Result, Ok, slice_get}
+use Rattle.std.specs.Prelude.{◌≡◌, ℕ, ◌≤◌, Bool, true, ◌&&◌, nat_lt, List, [], ◌∷◌, ◌++◌, length, Option, Some, Ok, slice_get}
 use Rattle.std.specs.List.{flat_map, list_all}
 use Rattle.std.specs.Option.{option_map_or}
 use Rattle.dbn_value.specs.Members.{In}
@@ -23,7 +23,7 @@ use Rattle.dbn_net.specs.declared.decl.Entry.TheVariants.{Part}
 use Rattle.dbn_net.specs.declared.written.Written.{Written}
 use Rattle.dbn_net.specs.Forms.{declaration_in}
 use Rattle.dbn_net.specs.Printing.{sexp_of}
-use Rattle.dbn_net.specs.Tables.{actions, places, relations, relation_shapes, place_shapes, scope_of, is_control, is_view, has_place}
+use Rattle.dbn_net.specs.Tables.{actions, places, relations, relation_shapes, scope_of, is_control, is_view, has_place}
 use Rattle.dbn_net.specs.Naming.{named}
 use Rattle.dbn_net.specs.Judging.{Begun, judged, as_many, all_terms, all_facts, terms_bound, arcs_counted}
 

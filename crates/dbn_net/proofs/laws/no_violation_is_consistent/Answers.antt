@@ -1,4 +1,4 @@
-use Rattle.std.proofs.Common.{◌≡◌, sym, ap, ◌∙◌, subst}
+use Rattle.std.proofs.Common.{◌≡◌, sym, subst}
 use Rattle.dbn_value.proofs.MemberLaws.{in_map}
 use Rattle.dbn_formula.specs.Normal.{normal}
 use Rattle.dbn_net.specs.declared.violation.Named.{Named}

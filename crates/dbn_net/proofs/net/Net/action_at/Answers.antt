@@ -1,5 +1,4 @@
-use Rattle.std.proofs.Common.{◌≡◌, length, Some, subst, sym, ap, ◌∙◌}
-use Rattle.std.specs.Prelude.{slice_get}
+use Rattle.std.proofs.Common.{subst, sym, ap, ◌∙◌}
 use Rattle.dbn_net.specs.Tables.{action_in, actions}
 use Rattle.dbn_net.specs.WellFormed.{WellFormed}
 use Rattle.dbn_net.proofs.PositionLaws.{stands, stands_for, there}

@@ -1,7 +1,5 @@
-use Rattle.std.proofs.Common.{◌≡◌, length, Some, subst, sym, ap, ◌∙◌}
-use Rattle.std.specs.Prelude.{slice_get}
+use Rattle.std.proofs.Common.{sym, ap, ◌∙◌}
 use Rattle.dbn_net.specs.Tables.{place_in, places}
-use Rattle.dbn_net.specs.WellFormed.{WellFormed}
 use Rattle.dbn_net.proofs.PositionLaws.{stands, stands_for, there}
 use Rattle.dbn_net.proofs.LiftLaws.{site_in_is as place_in_is}
 use Rattle.dbn_net.proofs.net.Net.place_at.Goals as goal

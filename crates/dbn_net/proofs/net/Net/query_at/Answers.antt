@@ -1,8 +1,7 @@
-use Rattle.std.proofs.Common.{◌≡◌, length, Some, subst, sym, ap, ◌∙◌}
-use Rattle.std.specs.Prelude.{slice_get}
-use Rattle.dbn_net.specs.Tables.{query_in, queries}
+use Rattle.std.proofs.Common.{subst, sym, ◌∙◌}
+use Rattle.dbn_net.specs.Tables.{query_in}
 use Rattle.dbn_net.specs.WellFormed.{WellFormed}
-use Rattle.dbn_net.proofs.PositionLaws.{stands, stands_for, there}
+use Rattle.dbn_net.proofs.PositionLaws.{stands, stands_for}
 use Rattle.dbn_net.proofs.LiftLaws.{accepted_at}
 use Rattle.dbn_net.proofs.net.Net.query_at.Goals as goal
 

@@ -1,8 +1,5 @@
-use Rattle.std.proofs.Common.{◌≡◌, length, Some, subst, sym, ap, ◌∙◌}
-use Rattle.std.specs.Prelude.{slice_get}
-use Rattle.dbn_net.specs.Tables.{relation_in, relations}
-use Rattle.dbn_net.specs.WellFormed.{WellFormed}
-use Rattle.dbn_net.proofs.PositionLaws.{stands, stands_for, there}
+use Rattle.dbn_net.specs.Tables.{relation_in}
+use Rattle.dbn_net.proofs.PositionLaws.{stands, stands_for}
 use Rattle.dbn_net.proofs.net.Net.relation_at.Goals as goal
 
 pub nth-requires : goal.nth-requires
