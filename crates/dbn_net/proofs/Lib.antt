@@ -35,4 +35,6 @@ pub mod NextLaws
 pub mod RoundRules
 pub mod RoundGood
 pub mod PositionLaws
+pub mod AddLaws
+pub mod SentenceLaws
 mod EnabledExamples

@@ -128,7 +128,7 @@ place_more xs ys (place.View name query) known = below_more query_in xs ys query
 view_is : (a b : Name) (n m : ℕ) → Part (Site (place.View a n)) ≡ Part (Site (place.View b m)) → n ≡ m
 view_is a b n m e = cc
 
-site_known : (front : List Decl) (site : Place) → Passes front (Site site) → place_known front site ≡ true
+pub site_known : (front : List Decl) (site : Place) → Passes front (Site site) → place_known front site ≡ true
 site_known front (place.Control name shape) p = refl
 site_known front (place.View name query) p =
     let j = judged_there front (Site (place.View name query)) p in
@@ -154,7 +154,7 @@ sites_known net ok =
     let s = stood [] net (Site site) ok (subst (λ d. In d net) (site_in_is found.0 site found.2) found.1) in
     subst (λ ds. place_known ds site ≡ true) (sym s.is) (place_more s.front (Site site ∷ s.rest) site (site_known s.front site s.passes)))
 
-shape_more : (xs ys : List Decl) (site : Place) → place_known xs site ≡ true → place_shape (query_shapes (xs ++ ys)) site ≡ place_shape (query_shapes xs) site
+pub shape_more : (xs ys : List Decl) (site : Place) → place_known xs site ≡ true → place_shape (query_shapes (xs ++ ys)) site ≡ place_shape (query_shapes xs) site
 shape_more xs ys (place.Control name shape) known = refl
 shape_more xs ys (place.View name query) known = queries_kept xs ys query known
 

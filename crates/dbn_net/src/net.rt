@@ -1,56 +1,38 @@
 //! Nets as values.
 
-ghost use Rattle.std.specs.Prelude.{◌≡◌, ◌<◌, [], ℕ, not, length, Some, true, slice_get};
+ghost use Rattle.std.specs.Prelude.{◌≡◌, ◌<◌, ◌++◌, ◌∷◌, [], ℕ, List, OnOk, OnErr, not, length, Some, true, slice_get};
 ghost use Rattle.dbn_formula.specs.Solutions.{AcceptsQuery};
 ghost use Rattle.dbn_net.specs.declared.decl.Decl.{Decl};
 ghost use Rattle.dbn_net.specs.Tables.{Question, Table, relation_in, query_in, relations, queries, actions, places, transitions, relation_names, always_names, query_names, action_names, place_names, transition_names, relation_shapes, place_shapes, shapes};
 ghost use Rattle.dbn_net.specs.Naming.{number_of};
 ghost use Rattle.dbn_net.specs.Judging.{is_new};
-ghost use Rattle.dbn_net.specs.Sentences.{violations as net_violations};
-ghost use Rattle.dbn_net.specs.WellFormed.{WellFormed, Fits, action_fits};
+ghost use Rattle.dbn_net.specs.Sentences.{labelled_sentences, violations as net_violations};
+ghost use Rattle.dbn_net.specs.WellFormed.{Passes, WellFormed, Fits, action_fits};
 
 use super::decl::{Decl, Decls, Place};
-use super::names::NameTable;
 use super::rules::Transition;
+use super::sentences::line_of;
+use super::tables::Tables;
 use super::violation::Violations;
 use dbn_instance::Action;
 use dbn_value::Shapes;
 use sqlite_items::Items;
-use std::alloc::Global;
+use std::alloc::{AllocError, Global};
 use std::marker::Model;
 
 /// A net: its declarations, each of which may follow those before it, with tables of what they declare.
 #[derive(Drop)]
 pub struct Net {
     decls: Decls,
-    relations: Kind,
-    always: NameTable,
-    queries: Kind,
-    actions: Kind,
-    places: Kind,
-    transitions: Kind,
-    relation_types: Shapes,
-    place_types: Shapes,
-    given_types: Shapes,
-    denials: Violations,
-}
-
-/// The declarations of one kind: the places at which they stand in the net, and their names.
-#[derive(Drop)]
-struct Kind {
-    at: Items<usize>,
-    names: NameTable,
+    tables: Tables,
 }
 
 impl Model for Net {
-    ghost use Rattle.std.specs.Prelude.{◌≡◌, List};
+    ghost use Rattle.std.specs.Prelude.{List};
     ghost use Rattle.std.specs.Coded.{codes};
     ghost use Rattle.dbn_net.specs.declared.decl.Decl.{Decl};
     ghost use Rattle.dbn_formula.specs.contracts.formula.Formula as formula;
-    ghost use Rattle.dbn_net.specs.Tables.{relation_in, query_in, action_in, place_in, transition_in, relation_names, always_names, query_names, action_names, place_names, transition_names, relation_shapes, place_shapes, shapes};
-    ghost use Rattle.dbn_net.specs.Positions.{positions};
-    ghost use Rattle.dbn_net.specs.Sentences.{violations};
-    ghost use Rattle.dbn_net.specs.WellFormed.{WellFormed};
+    ghost use Rattle.dbn_net.specs.Kept.{Kept};
 
     ghost Value = { List Decl };
 
@@ -58,36 +40,7 @@ impl Model for Net {
 
     ghost view = { λ n. n.decls };
 
-    ghost invariant = { λ n. record {
-      relations_at : n.relations.at ≡ positions relation_in n.decls;
-      relations_named : n.relations.names ≡ relation_names n.decls;
-      always_named : n.always ≡ always_names n.decls;
-      queries_at : n.queries.at ≡ positions query_in n.decls;
-      queries_named : n.queries.names ≡ query_names n.decls;
-      actions_at : n.actions.at ≡ positions action_in n.decls;
-      actions_named : n.actions.names ≡ action_names n.decls;
-      places_at : n.places.at ≡ positions place_in n.decls;
-      places_named : n.places.names ≡ place_names n.decls;
-      transitions_at : n.transitions.at ≡ positions transition_in n.decls;
-      transitions_named : n.transitions.names ≡ transition_names n.decls;
-      relations_typed : n.relation_types ≡ relation_shapes n.decls;
-      places_typed : n.place_types ≡ place_shapes n.decls;
-      transitions_typed : n.given_types ≡ shapes n.decls;
-      denied : n.denials ≡ violations n.decls;
-      net : WellFormed n.decls;
-    } };
-}
-
-impl Kind {
-    fn empty(alloc: Global) -> Kind
-        ensures at { result.at ≡ [] }
-        ensures names { result.names ≡ [] }
-    {
-        Kind {
-            at: Items::new(alloc),
-            names: NameTable::new(alloc),
-        }
-    }
+    ghost invariant = { λ n. Kept n.decls n.tables };
 }
 
 impl Net {
@@ -97,17 +50,70 @@ impl Net {
     {
         Net {
             decls: Items::new(alloc),
-            relations: Kind::empty(alloc),
-            always: NameTable::new(alloc),
-            queries: Kind::empty(alloc),
-            actions: Kind::empty(alloc),
-            places: Kind::empty(alloc),
-            transitions: Kind::empty(alloc),
-            relation_types: Items::new(alloc),
-            place_types: Items::new(alloc),
-            given_types: Items::new(alloc),
-            denials: Items::new(alloc),
+            tables: Tables::empty(alloc),
         }
+    }
+
+    /// Adds a declaration that may follow those of the net. After want of memory nothing changed.
+    #[tactic(auto, using(crate::proofs::AddLaws::new_entered, crate::proofs::AddLaws::kept_added))]
+    pub fn add(&mut self, alloc: Global, decl: Decl) -> Result<(), AllocError>
+        requires { Passes self.old decl }
+        ensures ok { OnOk result (self.new ≡ self.old ++ decl ∷ []) }
+        ensures err { OnErr result (self.new ≡ self.old) }
+    {
+        let tables = &self.tables;
+        let line = line_of(alloc, &tables.relations.types, &tables.queries.types, &decl)?;
+        let place = self.decls.len();
+        self.decls.push(decl)?;
+        match self.tables.enter(place, line) {
+            Ok(()) => Ok(()),
+            Err(_) => {
+                drop_last(&mut self.decls);
+                Err(AllocError)
+            }
+        }
+    }
+
+    /// How many relations there are.
+    pub fn relations(&self) -> usize
+        ensures { result ≡ length (relations self.now) }
+    {
+        self.tables.relations.types.len()
+    }
+
+    /// How many queries there are.
+    pub fn queries(&self) -> usize
+        ensures { result ≡ length (queries self.now) }
+    {
+        self.tables.queries.types.len()
+    }
+
+    /// How many actions there are.
+    pub fn actions(&self) -> usize
+        ensures { result ≡ length (actions self.now) }
+    {
+        self.tables.actions.types.len()
+    }
+
+    /// How many places there are, control and view places together.
+    pub fn places(&self) -> usize
+        ensures { result ≡ length (places self.now) }
+    {
+        self.tables.places.types.len()
+    }
+
+    /// How many transitions there are.
+    pub fn transitions(&self) -> usize
+        ensures { result ≡ length (transitions self.now) }
+    {
+        self.tables.transitions.types.len()
+    }
+
+    /// How many sentences there are: keys, foreign keys and `always`.
+    pub fn sentences(&self) -> usize
+        ensures { result ≡ length (labelled_sentences self.now) }
+    {
+        self.tables.denials.len()
     }
 
     /// The declarations in order. Each may follow those before it.
@@ -122,21 +128,21 @@ impl Net {
     pub fn rel_shapes(&self) -> &Shapes
         ensures { result.now ≡ relation_shapes self.now }
     {
-        &self.relation_types
+        &self.tables.relations.types
     }
 
     /// The types of the columns of each place.
     pub fn place_shapes(&self) -> &Shapes
         ensures { result.now ≡ place_shapes self.now }
     {
-        &self.place_types
+        &self.tables.places.types
     }
 
     /// The types of the row of a firing of each transition: those of its bound variables and then of its asked ones.
     pub fn shapes(&self) -> &Shapes
         ensures { result.now ≡ shapes self.now }
     {
-        &self.given_types
+        &self.tables.transitions.types
     }
 
     /// The n-th relation.
@@ -144,7 +150,7 @@ impl Net {
         requires { n < length (relations self.now) }
         ensures { relation_in result.now ≡ slice_get (relations self.now) n }
     {
-        nth(&self.decls, &self.relations.at, n)
+        nth(&self.decls, &self.tables.relations.at, n)
     }
 
     /// The n-th query, which is accepted over the relations of the net.
@@ -153,7 +159,7 @@ impl Net {
         ensures value { query_in result.now ≡ slice_get (queries self.now) n }
         ensures accepted { (q : Question) → query_in result.now ≡ Some q → AcceptsQuery (relation_shapes self.now) q.vars q.body }
     {
-        nth(&self.decls, &self.queries.at, n)
+        nth(&self.decls, &self.tables.queries.at, n)
     }
 
     /// The n-th action. The facts that it adds are of relations of the net, and typed.
@@ -162,7 +168,7 @@ impl Net {
         ensures value { slice_get (actions self.now) n ≡ Some result.now }
         ensures fits { action_fits self.now result.now ≡ true }
     {
-        match nth(&self.decls, &self.actions.at, n) {
+        match nth(&self.decls, &self.tables.actions.at, n) {
             Decl::Act(action) => action,
             _ => unreachable!(),
         }
@@ -173,7 +179,7 @@ impl Net {
         requires { n < length (places self.now) }
         ensures { slice_get (places self.now) n ≡ Some result.now }
     {
-        match nth(&self.decls, &self.places.at, n) {
+        match nth(&self.decls, &self.tables.places.at, n) {
             Decl::Site(place) => place,
             _ => unreachable!(),
         }
@@ -185,7 +191,7 @@ impl Net {
         ensures value { slice_get (transitions self.now) n ≡ Some result.now }
         ensures fits { Fits self.now result.now }
     {
-        match nth(&self.decls, &self.transitions.at, n) {
+        match nth(&self.decls, &self.tables.transitions.at, n) {
             Decl::Trans(transition) => transition,
             _ => unreachable!(),
         }
@@ -195,43 +201,50 @@ impl Net {
     pub fn relation(&self, name: &[u8]) -> Option<usize>
         ensures { result ≡ number_of (relation_names self.now) name.now }
     {
-        self.relations.names.number(name)
+        self.tables.relations.names.number(name)
     }
 
     /// Whether an `always` sentence has this name.
     pub fn has_always(&self, name: &[u8]) -> bool
         ensures { result ≡ not (is_new (always_names self.now) name.now) }
     {
-        !self.always.is_new(name)
+        !self.tables.always.is_new(name)
     }
 
     /// The number of the query with this name, if there is one.
     pub fn query(&self, name: &[u8]) -> Option<usize>
         ensures { result ≡ number_of (query_names self.now) name.now }
     {
-        self.queries.names.number(name)
+        self.tables.queries.names.number(name)
     }
 
     /// The number of the action with this name, if there is one.
     pub fn action(&self, name: &[u8]) -> Option<usize>
         ensures { result ≡ number_of (action_names self.now) name.now }
     {
-        self.actions.names.number(name)
+        self.tables.actions.names.number(name)
     }
 
     /// The number of the place with this name, if there is one.
     pub fn place(&self, name: &[u8]) -> Option<usize>
         ensures { result ≡ number_of (place_names self.now) name.now }
     {
-        self.places.names.number(name)
+        self.tables.places.names.number(name)
     }
 
     /// The number of the transition with this name, if there is one.
     pub fn transition(&self, name: &[u8]) -> Option<usize>
         ensures { result ≡ number_of (transition_names self.now) name.now }
     {
-        self.transitions.names.number(name)
+        self.tables.transitions.names.number(name)
     }
+}
+
+/// Takes the last declaration away.
+fn drop_last(decls: &mut Decls)
+    ensures { (before : List Decl) (last : Decl) → decls.old ≡ before ++ last ∷ [] → decls.new ≡ before }
+{
+    let _last = decls.pop();
 }
 
 /// The declaration at the n-th of these places.
@@ -247,5 +260,5 @@ fn nth<'net>(decls: &'net Decls, at: &Items<usize>, n: usize) -> &'net Decl
 pub fn violations(net: &Net) -> &Violations
     ensures { result.now ≡ net_violations net.now }
 {
-    &net.denials
+    &net.tables.denials
 }
