@@ -1,5 +1,5 @@
 -- What a crash leaves of several calls on a keeper.
-use Rattle.std.proofs.Common.{◌≡◌, ◌⊎◌, List, ℕ, get_or, Some, IsTrue, inl, inr, sym, subst, arith, ⊎_elim}
+use Rattle.std.proofs.Common.{◌≡◌, List, ℕ, Some, IsTrue, inl, inr, sym, subst, arith, ⊎_elim}
 use Rattle.dbn_keeper.specs.Files.{Store, Folder}
 use Rattle.dbn_keeper.specs.Files.Folder.{Holds}
 use Rattle.dbn_keeper.specs.Keeping.{KeeperState, NoneFalls, RoseIn, IsSound, IsSettled, BringsOnly}

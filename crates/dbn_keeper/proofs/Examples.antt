@@ -1,11 +1,10 @@
 -- Stores byte by byte, and what they stand for, computed.
 use Rattle.std.proofs.Common.{◌≡◌, ℕ, ◌+◌, ◌^◌, true, false, List, [], ◌∷◌, ◌++◌, length, take, refl}
 use Rattle.std.specs.Prelude.{codes}
-use Rattle.dbn_keeper.specs.Files.{Store, Folder, folder, file_of, new_store, with_body, place_behind}
+use Rattle.dbn_keeper.specs.Files.{Store, folder, file_of, new_store, with_body, place_behind}
 use Rattle.dbn_keeper.specs.Files.Folder.{NotMade, NotAStore, Holds}
 use Rattle.dbn_keeper.specs.declared.base.Base.{Base}
-use Rattle.dbn_keeper.specs.declared.opening.Form.{Form}
-use Rattle.dbn_keeper.specs.declared.opening.Form.TheVariants.{One, Two}
+use Rattle.dbn_keeper.specs.declared.opening.Form.TheVariants.{One}
 
 -- a net with one token, before the first firing
 start : Base

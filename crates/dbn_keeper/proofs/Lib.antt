@@ -1,2 +1,3 @@
 pub mod Crashes
 mod Examples
+pub mod Steps
