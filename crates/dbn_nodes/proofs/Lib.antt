@@ -1,0 +1,7 @@
+pub mod ChangeLaws
+mod Examples
+pub mod KeyedLaws
+pub mod NodeLaws
+pub mod ShelfLaws
+pub mod StandsLaws
+pub mod ValueLaws

@@ -1,0 +1,5 @@
+pub mod Changes
+pub mod Entries
+pub mod Stands
+pub mod Tables
+pub mod Values

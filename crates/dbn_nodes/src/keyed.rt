@@ -1,0 +1,146 @@
+ghost use Rattle.std.specs.Prelude.{◌≡◌, ◌+◌, ◌<◌, ◌&&◌, ◌↔◌, List, [], if◌then◌else◌, length, None, IfOk, OnOk, OnErr, IsTrue};
+ghost use Rattle.std.specs.Ordering.{eq_by_cmp};
+ghost use Rattle.std.specs.Cmp.Lexicographic.{slice_cmp};
+ghost use Rattle.std.specs.Map.{lookup};
+ghost use Rattle.std.specs.BTreeMap.{is_at};
+ghost use Rattle.dbn_nodes.specs.Tables.{count_at, AreRowsOf};
+
+use super::shelf::Shelf;
+use super::steps::Steps;
+use dbn_value::{Cell, Row, RowsOf};
+use sqlite_items::Items;
+use std::alloc::{AllocError, Global};
+use std::collections::BTreeMap;
+use std::marker::Model;
+use std::sync::ledger::Ledger;
+
+/// A table of rows under keys, each pair of a key and a row once, with a count of at least 1.
+#[derive(Drop)]
+pub struct Keyed<C: Cell> {
+    shelves: BTreeMap<Row<C>, Shelf<C>>,
+}
+
+impl<C: Cell> Model for Keyed<C> {
+    ghost use Rattle.std.specs.Prelude.{List, ℕ};
+    ghost use Rattle.std.specs.Coded.{coded_list, coded×, coded_ℕ};
+    ghost use Rattle.std.specs.Cmp.Lexicographic.{slice_cmp};
+    ghost use Rattle.dbn_nodes.specs.Tables.{IsTable};
+
+    ghost Value = { List (List C × List (List C × ℕ)) };
+
+    ghost coded = { coded_list (coded× (coded_list C.code) (coded_list (coded× (coded_list C.code) coded_ℕ))) };
+
+    ghost view = { λ t. t.shelves.entries };
+
+    ghost invariant = { λ t. IsTable (slice_cmp C.cmp) t.shelves.entries };
+}
+
+impl<C: Cell> Keyed<C> {
+    /// The table without rows.
+    pub fn new(alloc: Global) -> Keyed<C>
+        ensures empty { result ≡ [] }
+        ensures counts { (k r : List C) → count_at (slice_cmp C.cmp) result k r ≡ 0 }
+    {
+        Keyed {
+            shelves: BTreeMap::new(alloc),
+        }
+    }
+
+    /// The count of the row under the key, 0 where it is not there. It takes one step.
+    pub fn count<L: Ledger>(&self, key: &Row<C>, row: &Row<C>, steps: &mut Steps<L>) -> u64
+        ensures value { result ≡ count_at (slice_cmp C.cmp) self.now key.now row.now }
+        ensures cost { steps.new ≡ steps.old + 1 }
+    {
+        steps.tick();
+        match self.shelves.get(key) {
+            Some(shelf) => shelf.count(row),
+            None => 0,
+        }
+    }
+
+    /// Whether the table has no rows. It takes no step.
+    pub fn is_empty(&self) -> bool
+        ensures { IsTrue result ↔ ((k r : List C) → count_at (slice_cmp C.cmp) self.now k r ≡ 0) }
+    {
+        self.shelves.is_empty()
+    }
+
+    /// Gives the row under the key this count; all other counts stay. It takes one step. An error is want of memory, and then
+    /// nothing changed.
+    pub fn set<L: Ledger>(
+        &mut self,
+        alloc: Global,
+        key: Row<C>,
+        row: Row<C>,
+        many: u64,
+        steps: &mut Steps<L>,
+    ) -> Result<(), AllocError>
+        requires some { 0 < many }
+        ensures ok { OnOk result ((k r : List C) → count_at (slice_cmp C.cmp) self.new k r ≡ (if eq_by_cmp (slice_cmp C.cmp) key k && eq_by_cmp (slice_cmp C.cmp) row r then many else count_at (slice_cmp C.cmp) self.old k r)) }
+        ensures err { OnErr result (self.new ≡ self.old) }
+        ensures cost { steps.new ≡ steps.old + 1 }
+    {
+        steps.tick();
+        match self.shelves.get_mut(&key) {
+            Some(shelf) => {
+                shelf.set(alloc, row, many)?;
+                return Ok(());
+            }
+            None => {
+                self.shelves.insert(key, Shelf::one(row, many))?;
+                return Ok(());
+            }
+        }
+    }
+
+    /// Takes the row under the key out, and tells whether it was there; all other counts stay. It takes one step.
+    pub fn remove<L: Ledger>(&mut self, key: &Row<C>, row: &Row<C>, steps: &mut Steps<L>) -> bool
+        ensures there { IsTrue result ↔ (0 < count_at (slice_cmp C.cmp) self.old key.now row.now) }
+        ensures counts { (k r : List C) → count_at (slice_cmp C.cmp) self.new k r ≡ (if eq_by_cmp (slice_cmp C.cmp) key.now k && eq_by_cmp (slice_cmp C.cmp) row.now r then 0 else count_at (slice_cmp C.cmp) self.old k r) }
+        ensures cost { steps.new ≡ steps.old + 1 }
+    {
+        steps.tick();
+        match self.shelves.get_mut(key) {
+            Some(shelf) => {
+                let there = shelf.count(row) > 0;
+                let last = shelf.remove(row);
+                if last {
+                    take_out(&mut self.shelves, key);
+                }
+                return there;
+            }
+            None => {
+                return false;
+            }
+        }
+    }
+
+    /// The rows under the key, ascending. It takes one step, and one more for each row. An error is want of memory.
+    pub fn rows_of<L: Ledger>(
+        &self,
+        alloc: Global,
+        key: &Row<C>,
+        steps: &mut Steps<L>,
+    ) -> Result<RowsOf<C>, AllocError>
+        ensures rows { IfOk result (λ rows. AreRowsOf (slice_cmp C.cmp) self.now key.now rows) }
+        ensures cost { IfOk result (λ rows. steps.new ≡ steps.old + 1 + length rows) }
+    {
+        steps.tick();
+        match self.shelves.get(key) {
+            Some(shelf) => {
+                let rows = shelf.rows(alloc, steps)?;
+                return Ok(rows);
+            }
+            None => {
+                return Ok(Items::new(alloc));
+            }
+        }
+    }
+}
+
+/// Takes the key out.
+fn take_out<C: Cell>(shelves: &mut BTreeMap<Row<C>, Shelf<C>>, key: &Row<C>)
+    ensures { (q : List C) → lookup (is_at (slice_cmp C.cmp q)) shelves.new.entries ≡ (if is_at (slice_cmp C.cmp key.now) q then None else lookup (is_at (slice_cmp C.cmp q)) shelves.old.entries) }
+{
+    shelves.remove(key);
+}

@@ -1,0 +1,152 @@
+ghost use Rattle.std.specs.Prelude.{◌≡◌, ◌+◌, ◌<◌, ◌++◌, List, [], if◌then◌else◌, true, false, map, length, IfOk, OnOk, OnErr};
+ghost use Rattle.std.specs.Cmp.Lexicographic.{slice_cmp};
+ghost use Rattle.std.specs.BTreeMap.{is_at};
+ghost use Rattle.std.specs.Map.{keys_of};
+ghost use Rattle.dbn_nodes.specs.Tables.{shelf_count, IsShelf, IsFilled};
+
+use super::steps::Steps;
+use dbn_value::{Cell, CopyIn, Row, RowsOf};
+use sqlite_items::Items;
+use std::alloc::{AllocError, Global};
+use std::collections::BTreeMap;
+use std::marker::Model;
+use std::sync::ledger::Ledger;
+
+/// The rows of one key with their counts: most keys have one row, which is held in place.
+#[derive(Drop)]
+pub(crate) enum Inner<C: Cell> {
+    /// One row.
+    One(Row<C>, u64),
+    /// Rows in their order.
+    Many(BTreeMap<Row<C>, u64>),
+}
+
+/// The rows of one key, each with a count of at least 1.
+#[derive(Drop)]
+pub(crate) struct Shelf<C: Cell> {
+    inner: Inner<C>,
+}
+
+impl<C: Cell> Model for Shelf<C> {
+    ghost use Rattle.std.specs.Prelude.{List, ℕ};
+    ghost use Rattle.std.specs.Coded.{coded_list, coded×, coded_ℕ};
+    ghost use Rattle.std.specs.Cmp.Lexicographic.{slice_cmp};
+    ghost use Rattle.dbn_nodes.specs.Tables.{IsShelf};
+    ghost use Rattle.dbn_nodes.specs.Entries.{entries_in};
+
+    ghost Value = { List (List C × ℕ) };
+
+    ghost coded = { coded_list (coded× (coded_list C.code) coded_ℕ) };
+
+    ghost view = { λ s. entries_in s.inner };
+
+    ghost invariant = { λ s. IsShelf (slice_cmp C.cmp) (entries_in s.inner) };
+}
+
+impl<C: Cell> Shelf<C> {
+    /// The count of the row, 0 where it is not there.
+    pub(crate) fn count(&self, row: &Row<C>) -> u64
+        ensures { result ≡ shelf_count (slice_cmp C.cmp) self.now row.now }
+    {
+        match &self.inner {
+            Inner::One(own, many) => { if row.cmp(own).is_eq() { *many } else { 0 } }
+            Inner::Many(rows) => rows.get(row).copied().unwrap_or(0),
+        }
+    }
+
+    /// The shelf of this row alone.
+    pub(crate) fn one(row: Row<C>, many: u64) -> Shelf<C>
+        requires some { 0 < many }
+        ensures { (q : List C) → shelf_count (slice_cmp C.cmp) result q ≡ (if is_at (slice_cmp C.cmp row) q then many else 0) }
+    {
+        Shelf {
+            inner: Inner::One(row, many),
+        }
+    }
+
+    /// Gives the row this count. An error is want of memory, and then nothing changed.
+    pub(crate) fn set(&mut self, alloc: Global, row: Row<C>, many: u64) -> Result<(), AllocError>
+        requires some { 0 < many }
+        ensures ok { OnOk result ((q : List C) → shelf_count (slice_cmp C.cmp) self.new q ≡ (if is_at (slice_cmp C.cmp row) q then many else shelf_count (slice_cmp C.cmp) self.old q)) }
+        ensures err { OnErr result (self.new ≡ self.old) }
+    {
+        match &mut self.inner {
+            Inner::One(own, held) => {
+                if row.cmp(own).is_eq() {
+                    *held = many;
+                    return Ok(());
+                }
+                let first = own.copy_in(alloc)?;
+                let mut rows = BTreeMap::new(alloc);
+                rows.insert(first, *held)?;
+                rows.insert(row, many)?;
+                self.inner = Inner::Many(rows);
+                Ok(())
+            }
+            Inner::Many(rows) => {
+                rows.insert(row, many)?;
+                Ok(())
+            }
+        }
+    }
+
+    /// Takes the row out. With `true` no other row is there, and the shelf is to be let go.
+    pub(crate) fn remove(&mut self, row: &Row<C>) -> bool
+        ensures gone { result ≡ true → (q : List C) → shelf_count (slice_cmp C.cmp) self.old q ≡ (if is_at (slice_cmp C.cmp row.now) q then shelf_count (slice_cmp C.cmp) self.old row.now else 0) }
+        ensures left { result ≡ false → (q : List C) → shelf_count (slice_cmp C.cmp) self.new q ≡ (if is_at (slice_cmp C.cmp row.now) q then 0 else shelf_count (slice_cmp C.cmp) self.old q) }
+        ensures some { result ≡ false → IsFilled (slice_cmp C.cmp) self.new }
+    {
+        match &mut self.inner {
+            Inner::One(own, _) => {
+                let same = row.cmp(own).is_eq();
+                return same;
+            }
+            Inner::Many(rows) => {
+                rows.remove(row);
+                let empty = rows.is_empty();
+                return empty;
+            }
+        }
+    }
+
+    /// The rows, ascending, one step for each. An error is want of memory.
+    pub(crate) fn rows<L: Ledger>(
+        &self,
+        alloc: Global,
+        steps: &mut Steps<L>,
+    ) -> Result<RowsOf<C>, AllocError>
+        ensures rows { IfOk result (λ rows. rows ≡ keys_of self.now) }
+        ensures held { OnOk result (IsShelf (slice_cmp C.cmp) self.now) }
+        ensures cost { IfOk result (λ rows. steps.new ≡ steps.old + length rows) }
+    {
+        match &self.inner {
+            Inner::One(own, _) => {
+                let mut rows = Items::new(alloc);
+                rows.push(own.copy_in(alloc)?)?;
+                steps.tick();
+                return Ok(rows);
+            }
+            Inner::Many(all) => {
+                let rows = copy_rows(alloc, all, steps)?;
+                return Ok(rows);
+            }
+        }
+    }
+}
+
+/// Copies of the rows, one step for each.
+fn copy_rows<C: Cell, L: Ledger>(
+    alloc: Global,
+    all: &BTreeMap<Row<C>, u64>,
+    steps: &mut Steps<L>,
+) -> Result<RowsOf<C>, AllocError>
+    ensures rows { IfOk result (λ rows. rows ≡ keys_of all.now.entries) }
+    ensures cost { IfOk result (λ rows. steps.new ≡ steps.old + length rows) }
+{
+    let mut rows = Items::new(alloc);
+    for (row, _many) in all {
+        rows.push(row.copy_in(alloc)?)?;
+        steps.tick();
+    }
+    Ok(rows)
+}
