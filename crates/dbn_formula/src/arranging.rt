@@ -1,12 +1,13 @@
 ghost use Rattle.std.specs.Prelude.{◌≡◌, ◌++◌, map, length, IfOk, OnOk};
-ghost use Rattle.dbn_formula.specs.Safe.{arranged};
+ghost use Rattle.dbn_formula.specs.Safe.{outside, arranged};
 ghost use Rattle.dbn_formula.specs.Conjuncts.{order, arranged_along};
 
 use super::formula::{Formula, Formulas};
 use super::normal_form::{choice, denial};
-use super::safety::{in_turns, outside};
-use super::variables::add_occurrences;
-use dbn_value::{CopyIn, TypedVars, Var, Vars, copy_items};
+use super::safety::{hides_bound, in_turns, outside};
+use super::var_list::{VarList, list_of};
+use super::variables::bind;
+use dbn_value::{ColType, CopyIn, TypedVars, Var, Vars};
 use sqlite_items::{Boxed, Items};
 use std::alloc::{AllocError, Global};
 
@@ -17,12 +18,13 @@ use std::alloc::{AllocError, Global};
 pub fn arrange(alloc: Global, f: &Formula, bound: &Vars) -> Result<Formula, AllocError>
     ensures { IfOk result (λ g. g ≡ arranged f.now bound.now) }
 {
-    arranged_at(alloc, f, bound.as_slice())
+    let bound = list_of(alloc, bound.as_slice())?;
+    arranged_at(alloc, f, &bound)
 }
 
 #[cycle(arranged)]
 #[tactic(auto, using(crate::proofs::SafeLaws::safe_laws, crate::proofs::OrderOfParts::order_is, crate::proofs::Weights::weight_laws))]
-fn arranged_at(alloc: Global, f: &Formula, bound: &[Var]) -> Result<Formula, AllocError>
+fn arranged_at(alloc: Global, f: &Formula, bound: &VarList) -> Result<Formula, AllocError>
     ensures { IfOk result (λ g. g ≡ arranged f.now bound.now) }
 {
     match f {
@@ -41,22 +43,31 @@ fn arranged_at(alloc: Global, f: &Formula, bound: &[Var]) -> Result<Formula, All
             implication(alloc, left, right)
         }
         Formula::Exists { vars, body } => {
-            let outside = outside(alloc, vars.as_slice(), bound)?;
-            choice(
-                alloc,
-                vars,
-                arranged_at(alloc, body.get(), outside.as_slice())?,
-            )
+            let body = arranged_inside(alloc, vars.as_slice(), body.get(), bound)?;
+            choice(alloc, vars, body)
         }
         Formula::Forall { vars, body } => {
-            let outside = outside(alloc, vars.as_slice(), bound)?;
-            generality(
-                alloc,
-                vars,
-                arranged_at(alloc, body.get(), outside.as_slice())?,
-            )
+            let body = arranged_inside(alloc, vars.as_slice(), body.get(), bound)?;
+            generality(alloc, vars, body)
         }
     }
+}
+
+/// Arranges a formula inside a quantifier. What is bound is copied only where the quantifier hides some of it.
+#[cycle(arranged)]
+fn arranged_inside(
+    alloc: Global,
+    vars: &[(Var, ColType)],
+    body: &Formula,
+    bound: &VarList,
+) -> Result<Formula, AllocError>
+    ensures { IfOk result (λ g. g ≡ arranged body.now (outside vars.now bound.now)) }
+{
+    if hides_bound(vars, bound) {
+        let outside = outside(alloc, vars, bound)?;
+        return arranged_at(alloc, body, &outside);
+    }
+    arranged_at(alloc, body, bound)
 }
 
 /// Appends each part, arranged, as they stand.
@@ -66,7 +77,7 @@ fn add_arranged(
     alloc: Global,
     out: &mut Formulas,
     parts: &[Formula],
-    bound: &[Var],
+    bound: &VarList,
 ) -> Result<(), AllocError>
     ensures { OnOk result (out.new ≡ out.old ++ map (λ g. arranged g bound.now) parts.now) }
 {
@@ -78,7 +89,7 @@ fn add_arranged(
 
 /// The parts, arranged, in the order in which the safety test takes them.
 #[cycle(arranged)]
-fn in_order(alloc: Global, parts: &[Formula], bound: &[Var]) -> Result<Formulas, AllocError>
+fn in_order(alloc: Global, parts: &[Formula], bound: &VarList) -> Result<Formulas, AllocError>
     ensures { IfOk result (λ made. made ≡ order (length parts.now) parts.now bound.now) }
 {
     let turns = in_turns(alloc, parts, bound)?;
@@ -100,16 +111,16 @@ fn add_in_turns(
     out: &mut Formulas,
     taken: &[&Formula],
     waiting: &[&Formula],
-    bound: &[Var],
+    bound: &VarList,
 ) -> Result<(), AllocError>
     ensures { OnOk result (out.new ≡ out.old ++ arranged_along (map (λ f. f.now) taken.now) (map (λ f. f.now) waiting.now) bound.now) }
 {
-    let mut bound = copy_items(alloc, bound)?;
+    let mut bound = bound.copy_in(alloc)?;
     for part in taken {
-        out.push(arranged_at(alloc, *part, bound.as_slice())?)?;
-        add_occurrences(alloc, &mut bound, *part)?;
+        out.push(arranged_at(alloc, *part, &bound)?)?;
+        bind(alloc, &mut bound, *part)?;
     }
-    add_waiting(alloc, out, waiting, bound.as_slice())
+    add_waiting(alloc, out, waiting, &bound)
 }
 
 /// Appends each part, arranged, as they stand.
@@ -119,7 +130,7 @@ fn add_waiting(
     alloc: Global,
     out: &mut Formulas,
     parts: &[&Formula],
-    bound: &[Var],
+    bound: &VarList,
 ) -> Result<(), AllocError>
     ensures { OnOk result (out.new ≡ out.old ++ map (λ g. arranged g.now bound.now) parts.now) }
 {

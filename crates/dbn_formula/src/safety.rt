@@ -1,16 +1,19 @@
 ghost use Rattle.std.specs.Prelude.{◌≡◌, [], ◌∷◌, ◌++◌, ◌&&◌, List, None, map, length, IfOk, OnOk};
 ghost use Rattle.std.specs.List.{flat_map, list_all};
 ghost use Rattle.dbn_formula.specs.Free.{occurrences, unhidden};
-ghost use Rattle.dbn_formula.specs.Safe.{all_in, known, test_safe, safe};
+ghost use Rattle.dbn_formula.specs.Safe.{all_in, known, test_safe, outside, safe};
 ghost use Rattle.dbn_value.specs.declared.term.Term.{Term};
 ghost use Rattle.dbn_formula.specs.Rest.{Rest, Rests, stand_in, conjunction_left};
+ghost use Rattle.dbn_formula.specs.Known.{hides_bound};
+ghost use Rattle.dbn_formula.specs.Variables.{is_in};
 ghost use Rattle.dbn_formula.specs.Conjuncts.{first_safe, taken, turns, turns_after, safe_position};
 ghost use Rattle.dbn_formula.specs.declared.formula.Formula.{Formula};
 
 use super::formula::{Formula, Formulas};
 use super::normal_form::{choice, denial};
-use super::variables::{add_occurrences, binds, is_in};
-use dbn_value::{Cmp, ColType, CopyIn, Term, Terms, TypedVars, Var, Vars, copy_items};
+use super::var_list::{VarList, list_of};
+use super::variables::{add_occurrences, bind, binds};
+use dbn_value::{Cmp, ColType, CopyIn, Term, Terms, TypedVars, Var, Vars};
 use sqlite_items::Items;
 use std::alloc::{AllocError, Global};
 
@@ -32,7 +35,7 @@ pub(crate) struct Turns<'a> {
     /// What is left to be tried of each that waits.
     lefts: Formulas,
     /// What was given, and the free variables of those that were taken.
-    bound: Vars,
+    bound: VarList,
 }
 
 impl<'a> Turns<'a> {
@@ -44,7 +47,7 @@ impl<'a> Turns<'a> {
         ensures bound { OnOk result (self.new.bound ≡ self.old.bound ++ occurrences part.now) }
     {
         self.taken.push(part)?;
-        add_occurrences(alloc, &mut self.bound, part)
+        bind(alloc, &mut self.bound, part)
     }
 }
 
@@ -55,14 +58,15 @@ impl<'a> Turns<'a> {
 pub fn safe(alloc: Global, f: &Formula, bound: &Vars) -> Result<bool, AllocError>
     ensures { IfOk result (λ ok. ok ≡ safe f.now bound.now) }
 {
-    let tried = trial(alloc, f, bound.as_slice())?;
+    let bound = list_of(alloc, bound.as_slice())?;
+    let tried = trial(alloc, f, &bound)?;
     Ok(tried.is_safe)
 }
 
 /// Tries whether the formula is safe, and says what is left to be tried once more is bound.
 #[cycle(safe)]
 #[tactic(auto, using(crate::proofs::SafeLaws::safe_laws, crate::proofs::OrderOfParts::taken_is, crate::proofs::Weights::weight_laws))]
-fn trial(alloc: Global, f: &Formula, bound: &[Var]) -> Result<Tried, AllocError>
+fn trial(alloc: Global, f: &Formula, bound: &VarList) -> Result<Tried, AllocError>
     ensures is_safe { IfOk result (λ tried. tried.is_safe ≡ safe f.now bound.now) }
     ensures left { IfOk result (λ tried. Rest bound.now f.now tried.left) }
 {
@@ -80,11 +84,32 @@ fn trial(alloc: Global, f: &Formula, bound: &[Var]) -> Result<Tried, AllocError>
         }
         Formula::Implies(_, _) => whole(alloc, f, false),
         Formula::Exists { vars, body } => {
-            let outside = outside(alloc, vars.as_slice(), bound)?;
-            tried_choice(alloc, vars, trial(alloc, body.get(), outside.as_slice())?)
+            tried_choice(
+                alloc,
+                vars,
+                trial_inside(alloc, vars.as_slice(), body.get(), bound)?,
+            )
         }
         Formula::Forall { .. } => whole(alloc, f, false),
     }
+}
+
+/// Tries a formula inside a quantifier. What is bound is copied only where the quantifier hides some of it.
+#[cycle(safe)]
+fn trial_inside(
+    alloc: Global,
+    vars: &[(Var, ColType)],
+    body: &Formula,
+    bound: &VarList,
+) -> Result<Tried, AllocError>
+    ensures is_safe { IfOk result (λ tried. tried.is_safe ≡ safe body.now (outside vars.now bound.now)) }
+    ensures left { IfOk result (λ tried. Rest (outside vars.now bound.now) body.now tried.left) }
+{
+    if hides_bound(vars, bound) {
+        let outside = outside(alloc, vars, bound)?;
+        return trial(alloc, body, &outside);
+    }
+    trial(alloc, body, bound)
 }
 
 /// All of the formula is left.
@@ -124,7 +149,7 @@ fn each_tried(
     alloc: Global,
     parts: &[Formula],
     needed: &[Var],
-    bound: &[Var],
+    bound: &VarList,
 ) -> Result<Tried, AllocError>
     ensures is_safe { IfOk result (λ tried. tried.is_safe ≡ list_all (λ f. safe f bound.now && all_in needed.now (bound.now ++ occurrences f)) parts.now) }
     ensures left { IfOk result (λ tried. Rest bound.now (Formula.Or parts.now) tried.left) }
@@ -150,7 +175,7 @@ fn all_three(first: bool, second: bool, third: bool) -> bool
 
 /// Whether all parts get taken.
 #[cycle(safe)]
-fn all_tried(alloc: Global, parts: &[Formula], bound: &[Var]) -> Result<Tried, AllocError>
+fn all_tried(alloc: Global, parts: &[Formula], bound: &VarList) -> Result<Tried, AllocError>
     ensures is_safe { IfOk result (λ tried. tried.is_safe ≡ taken (length parts.now) parts.now bound.now) }
     ensures left { IfOk result (λ tried. Rest bound.now (Formula.And parts.now) tried.left) }
 {
@@ -216,7 +241,7 @@ fn as_terms(alloc: Global, vars: &[Var]) -> Result<Terms, AllocError>
 pub(crate) fn in_turns<'x>(
     alloc: Global,
     parts: &'x [Formula],
-    bound: &[Var],
+    bound: &VarList,
 ) -> Result<Turns<'x>, AllocError>
     ensures taken { IfOk result (λ made. map (λ f. f.now) made.taken ≡ (turns (length parts.now) parts.now bound.now).0) }
     ensures waiting { IfOk result (λ made. map (λ f. f.now) made.waiting ≡ (turns (length parts.now) parts.now bound.now).1) }
@@ -226,7 +251,7 @@ pub(crate) fn in_turns<'x>(
         taken: Items::new(alloc),
         waiting: Items::new(alloc),
         lefts: Items::new(alloc),
-        bound: copy_items(alloc, bound)?,
+        bound: bound.copy_in(alloc)?,
     };
     for part in parts {
         look_at(alloc, &mut turns, part)?;
@@ -247,7 +272,7 @@ fn look_at<'x>(alloc: Global, turns: &mut Turns<'x>, part: &'x Formula) -> Resul
     ensures bound { OnOk result ((given : List Var) → turns.old.bound ≡ given ++ flat_map occurrences (map (λ f. f.now) turns.old.taken)
         → turns.new.bound ≡ given ++ flat_map occurrences (map (λ f. f.now) turns.new.taken)) }
 {
-    let tried = trial(alloc, part, turns.bound.as_slice())?;
+    let tried = trial(alloc, part, &turns.bound)?;
     if tried.is_safe {
         turns.take(alloc, part)?;
         return take_waiting(alloc, turns);
@@ -269,7 +294,7 @@ fn take_waiting<'x>(alloc: Global, turns: &mut Turns<'x>) -> Result<(), AllocErr
         → turns.new.bound ≡ given ++ flat_map occurrences (map (λ f. f.now) turns.new.taken)) }
 {
     loop {
-        let at = first_safe_left(alloc, &mut turns.lefts, turns.bound.as_slice())?;
+        let at = first_safe_left(alloc, &mut turns.lefts, &turns.bound)?;
         if turns.waiting.len() <= at {
             return Ok(());
         }
@@ -282,7 +307,11 @@ fn take_waiting<'x>(alloc: Global, turns: &mut Turns<'x>) -> Result<(), AllocErr
 /// The position of the first of these that is safe, or their number where there is none. Each that was tried and isn't safe
 /// gives way to what is left of it.
 #[cycle(safe)]
-fn first_safe_left(alloc: Global, lefts: &mut Formulas, bound: &[Var]) -> Result<usize, AllocError>
+fn first_safe_left(
+    alloc: Global,
+    lefts: &mut Formulas,
+    bound: &VarList,
+) -> Result<usize, AllocError>
     ensures position { IfOk result (λ at. at ≡ safe_position lefts.old bound.now) }
     ensures lefts { OnOk result (Rests bound.now lefts.old lefts.new) }
 {
@@ -297,7 +326,7 @@ fn first_safe_left(alloc: Global, lefts: &mut Formulas, bound: &[Var]) -> Result
 }
 
 /// Whether a comparison is safe: an equation needs one side, another comparison both.
-fn test_safe(cmp: Cmp, left: &Term, right: &Term, bound: &[Var]) -> bool
+fn test_safe(cmp: Cmp, left: &Term, right: &Term, bound: &VarList) -> bool
     ensures { result ≡ test_safe cmp left.now right.now bound.now }
 {
     match cmp {
@@ -308,24 +337,24 @@ fn test_safe(cmp: Cmp, left: &Term, right: &Term, bound: &[Var]) -> bool
 }
 
 /// Whether the term is a constant, or a variable that is bound.
-fn known(term: &Term, bound: &[Var]) -> bool
+fn known(term: &Term, bound: &VarList) -> bool
     ensures { result ≡ known bound.now term.now }
 {
     match term {
-        Term::Var(var) => is_in(var, bound),
+        Term::Var(var) => bound.has(var),
         Term::Const(_) => true,
     }
 }
 
 /// Whether all of the variables are bound.
-fn all_in(vars: &[Var], bound: &[Var]) -> bool
+fn all_in(vars: &[Var], bound: &VarList) -> bool
     ensures { result ≡ all_in vars.now bound.now }
 {
-    vars.iter().all(|var| is_in(var, bound))
+    vars.iter().all(|var| bound.has(var))
 }
 
 /// Whether all free variables of the formula are bound.
-fn binds_all_of(alloc: Global, f: &Formula, bound: &[Var]) -> Result<bool, AllocError>
+fn binds_all_of(alloc: Global, f: &Formula, bound: &VarList) -> Result<bool, AllocError>
     ensures { IfOk result (λ ok. ok ≡ all_in (occurrences f.now) bound.now) }
 {
     let mut vars = Items::new(alloc);
@@ -338,13 +367,28 @@ fn binds_needed(
     alloc: Global,
     part: &Formula,
     needed: &[Var],
-    bound: &[Var],
+    bound: &VarList,
 ) -> Result<bool, AllocError>
     ensures { IfOk result (λ ok. ok ≡ all_in needed.now (bound.now ++ occurrences part.now)) }
 {
-    let mut inside = copy_items(alloc, bound)?;
-    add_occurrences(alloc, &mut inside, part)?;
-    Ok(all_in(needed, inside.as_slice()))
+    let mut inside = VarList::new(alloc);
+    bind(alloc, &mut inside, part)?;
+    Ok(all_in_either(needed, bound, &inside))
+}
+
+/// Whether each of the variables is in one of the lists.
+fn all_in_either(vars: &[Var], bound: &VarList, inside: &VarList) -> bool
+    ensures { result ≡ all_in vars.now (bound.now ++ inside.now) }
+{
+    vars.iter().all(|var| in_either(var, bound, inside))
+}
+
+/// Whether the variable is in one of the lists.
+#[tactic(auto, using(crate::proofs::KnownLaws::is_in_append))]
+fn in_either(var: &Var, bound: &VarList, inside: &VarList) -> bool
+    ensures { result ≡ is_in var.now (bound.now ++ inside.now) }
+{
+    bound.has(var) || inside.has(var)
 }
 
 /// The free variables of all parts, as often as they occur.
@@ -363,15 +407,22 @@ fn all_occurrences(alloc: Global, parts: &[Formula]) -> Result<Vars, AllocError>
 pub(crate) fn outside(
     alloc: Global,
     vars: &[(Var, ColType)],
-    bound: &[Var],
-) -> Result<Vars, AllocError>
+    bound: &VarList,
+) -> Result<VarList, AllocError>
     ensures { IfOk result (λ kept. kept ≡ unhidden vars.now bound.now) }
 {
-    let mut kept = Items::new(alloc);
-    for var in bound {
+    let mut kept = VarList::new(alloc);
+    for var in bound.as_slice() {
         if !binds(vars, var) {
-            kept.push(var.copy_in(alloc)?)?;
+            kept.push(alloc, var)?;
         }
     }
     Ok(kept)
+}
+
+/// Whether one of the quantifier's variables is bound.
+pub(crate) fn hides_bound(vars: &[(Var, ColType)], bound: &VarList) -> bool
+    ensures { result ≡ hides_bound vars.now bound.now }
+{
+    vars.iter().any(|var| bound.has(&var.0))
 }

@@ -71,3 +71,20 @@ impl VarList {
         vars
     }
 }
+
+impl CopyIn for VarList {
+    fn copy_in(&self, alloc: Global) -> Result<VarList, AllocError> {
+        list_of(alloc, self.vars.as_slice())
+    }
+}
+
+/// The variables one after the other.
+pub(crate) fn list_of(alloc: Global, vars: &[Var]) -> Result<VarList, AllocError>
+    ensures { IfOk result (λ list. list ≡ vars.now) }
+{
+    let mut list = VarList::new(alloc);
+    for var in vars {
+        list.push(alloc, var)?;
+    }
+    Ok(list)
+}

@@ -1,6 +1,6 @@
 ghost use Rattle.std.specs.Prelude.{◌≡◌, ◌++◌, map, filter, IfOk, OnOk};
 ghost use Rattle.std.specs.List.{flat_map};
-ghost use Rattle.dbn_formula.specs.Variables.{is_in, binds, firsts, with_first};
+ghost use Rattle.dbn_formula.specs.Variables.{binds, firsts, with_first};
 ghost use Rattle.dbn_formula.specs.Free.{variable_of, unhidden, occurrences, free};
 
 use super::formula::Formula;
@@ -25,6 +25,24 @@ pub(crate) fn add_occurrences(alloc: Global, out: &mut Vars, f: &Formula) -> Res
     let mut found = Items::new(alloc);
     add_references(alloc, &mut found, f)?;
     add_copies(alloc, out, found.as_slice())
+}
+
+/// Appends the free variables of the formula to those that are bound, as often as they occur.
+pub(crate) fn bind(alloc: Global, bound: &mut VarList, f: &Formula) -> Result<(), AllocError>
+    ensures { OnOk result (bound.new ≡ bound.old ++ occurrences f.now) }
+{
+    let mut found = Items::new(alloc);
+    add_references(alloc, &mut found, f)?;
+    bind_each(alloc, bound, found.as_slice())
+}
+
+fn bind_each(alloc: Global, bound: &mut VarList, vars: &[&Var]) -> Result<(), AllocError>
+    ensures { OnOk result (bound.new ≡ bound.old ++ map (λ x. x.now) vars.now) }
+{
+    for var in vars {
+        bound.push(alloc, *var)?;
+    }
+    Ok(())
 }
 
 /// Appends references to the free variables of the formula, as often as they occur.
@@ -146,13 +164,6 @@ pub fn binds(vars: &[(Var, ColType)], var: &Var) -> bool
     ensures { result ≡ binds vars.now var.now }
 {
     vars.iter().any(|other| var.same(&other.0))
-}
-
-/// Whether the variable is in the list.
-pub(crate) fn is_in(var: &Var, vars: &[Var]) -> bool
-    ensures { result ≡ is_in var.now vars.now }
-{
-    vars.iter().any(|other| var.same(other))
 }
 
 /// Each variable once, in order of first occurrence.

@@ -7,6 +7,9 @@ use Rattle.dbn_formula.proofs.arranging.+arranged.Given as goal
 abbrev pub decreases-arranged_at : goal.decreases-arranged_at
 decreases-arranged_at l = weight l.f.now
 
+abbrev pub decreases-arranged_inside : goal.decreases-arranged_inside
+decreases-arranged_inside l = weight l.body.now + 1
+
 abbrev pub decreases-add_arranged : goal.decreases-add_arranged
 decreases-add_arranged l = sum_by weight l.parts.now + 1
 

@@ -10,6 +10,7 @@ use Rattle.dbn_formula.specs.Conjuncts.{first_safe, turns, safe_position}
 use Rattle.dbn_formula.specs.Rest.{Rest, Rests}
 use Rattle.dbn_formula.specs.declared.formula.Formula.{Formula}
 use Rattle.dbn_formula.specs.declared.formula.Formula.TheVariants.{And, Not, Exists}
+use Rattle.dbn_formula.proofs.KnownLaws.{nothing_hidden}
 use Rattle.dbn_formula.proofs.Weights.{weight}
 use Rattle.dbn_formula.proofs.Turns.{map_remove, none_waits, turns_begin, same_turns, taken_waiting, none_more, none_there, taken_next, walk_ends}
 use Rattle.dbn_formula.proofs.Trials.{rest_not, rest_exists, rest_or, rest_and, rests_self, rests_then, rests_length, rests_weigh, rests_position, rests_remove, rests_set, rests_begin, rests_over, rests_push, or_more, one_weighs, position_behind, grown_one, within_bound, ahead_weighs}
@@ -30,19 +31,29 @@ trial-returns-in_ok-trial-in-Not-clause-left t c =
     (rest_not bound c.in-Not.part left (subst (λ f. Rest bound f left) c.get-in-Not.ensures c.in_ok-trial-in-Not.ensures.left))))
     c.tried_denial.ensures.left
 
-pub trial-returns-in_ok-trial-in-Exists-clause-left : goal.trial-returns-in_ok-trial-in-Exists-clause-left
-trial-returns-in_ok-trial-in-Exists-clause-left t c =
+pub trial-returns-in_ok-trial_inside-in-Exists-clause-left : goal.trial-returns-in_ok-trial_inside-in-Exists-clause-left
+trial-returns-in_ok-trial_inside-in-Exists-clause-left t c =
     let bound = c.args.bound.now in
     let vars = c.in-Exists.vars in
-    let left = c.in_ok-trial-in-Exists.field-0.left in
-    let inside : c.as_slice-in-Exists-2.result.now ≡ outside vars bound =
-    c.as_slice-in-Exists-2.ensures ∙ c.in_ok-outside-in-Exists.ensures ∙ ap (λ xs. outside xs bound) c.as_slice-in-Exists.ensures in
+    let left = c.in_ok-trial_inside-in-Exists.field-0.left in
     IfOk-weaker c.tried_choice.result _ _
     (λ made e. subst (Rest bound c.args.f.now) (sym e)
     (subst (λ f. Rest bound f (Exists vars left)) (sym c.in-Exists.is)
     (rest_exists bound vars c.in-Exists.body left
-    (subst (λ f. Rest (outside vars bound) f left) c.get-in-Exists.ensures (subst (λ xs. Rest xs c.get-in-Exists.result.now left) inside c.in_ok-trial-in-Exists.ensures.left)))))
+    (subst (λ f. Rest (outside vars bound) f left) c.get-in-Exists.ensures
+    (subst (λ vs. Rest (outside vs bound) c.get-in-Exists.result.now left) c.as_slice-in-Exists.ensures c.in_ok-trial_inside-in-Exists.ensures.left)))))
     c.tried_choice.ensures.left
+
+-- where the quantifier hides nothing that is bound
+pub trial_inside-returns-clause-is_safe : goal.trial_inside-returns-clause-is_safe
+trial_inside-returns-clause-is_safe t c =
+    let same : outside c.args.vars.now c.args.bound.now ≡ c.args.bound.now = nothing_hidden c.args.vars.now c.args.bound.now (sym c.hides_bound.ensures ∙ c.if-hides_bound.false) in
+    IfOk-weaker c.trial-2.result _ _ (λ tried e. e ∙ ap (safe c.args.body.now) (sym same)) c.trial-2.ensures.is_safe
+
+pub trial_inside-returns-clause-left : goal.trial_inside-returns-clause-left
+trial_inside-returns-clause-left t c =
+    let same : outside c.args.vars.now c.args.bound.now ≡ c.args.bound.now = nothing_hidden c.args.vars.now c.args.bound.now (sym c.hides_bound.ensures ∙ c.if-hides_bound.false) in
+    IfOk-weaker c.trial-2.result _ _ (λ tried rest. subst (λ xs. Rest xs c.args.body.now tried.left) (sym same) rest) c.trial-2.ensures.left
 
 -- ---- a disjunction
 
@@ -84,13 +95,13 @@ in_turns-loop-part-init t c =
     let parts = c.args.parts.now in
     record {
       same =
-          same_turns (map now c.new.result) [] (map now c.new-2.result ++ parts) parts c.in_ok-copy_items.field-0 c.args.bound.now (ap (map now) c.new.ensures)
-          (ap (λ ws. map now ws ++ parts) c.new-2.ensures) c.in_ok-copy_items.ensures
+          same_turns (map now c.new.result) [] (map now c.new-2.result ++ parts) parts c.in_ok-copy_in.field-0 c.args.bound.now (ap (map now) c.new.ensures)
+          (ap (λ ws. map now ws ++ parts) c.new-2.ensures) c.in_ok-copy_in.ensures
           ∙ turns_begin parts c.args.bound.now;
-      none_safe = ap (λ ws. first_safe (map now ws) c.in_ok-copy_items.field-0) c.new-2.ensures;
-      lefts = rests_begin now c.in_ok-copy_items.field-0 c.new-2.result c.new-3.result c.new-2.ensures c.new-3.ensures;
+      none_safe = ap (λ ws. first_safe (map now ws) c.in_ok-copy_in.field-0) c.new-2.ensures;
+      lefts = rests_begin now c.in_ok-copy_in.field-0 c.new-2.result c.new-3.result c.new-2.ensures c.new-3.ensures;
       grown =
-          c.in_ok-copy_items.ensures ∙ sym (append-nil c.args.bound.now)
+          c.in_ok-copy_in.ensures ∙ sym (append-nil c.args.bound.now)
           ∙ ap (λ (ws : List (Bor Formula)). c.args.bound.now ++ flat_map occurrences (map now ws)) (sym c.new.ensures);
     }
 
@@ -139,7 +150,7 @@ look_at-returns-then-tried-clause-same_turns t c =
     let given = c.args.turns.now in
     let turn = c.take.new.self in
     let part = c.args.part.now in
-    let here : safe part given.bound ≡ true = sym (c.in_ok-tried.ensures.is_safe ∙ ap (safe part) c.as_slice.ensures) ∙ c.if-tried.true in
+    let here : safe part given.bound ≡ true = sym c.in_ok-tried.ensures.is_safe ∙ c.if-tried.true in
     IfOk-weaker c.take_waiting.result _ _
     (λ done same rest.
     same rest
@@ -152,7 +163,7 @@ pub look_at-returns-clause-none_safe : goal.look_at-returns-clause-none_safe
 look_at-returns-clause-none_safe t c =
     let given = c.args.turns.now in
     let part = c.args.part.now in
-    let fails : safe part given.bound ≡ false = sym (c.in_ok-tried.ensures.is_safe ∙ ap (safe part) c.as_slice.ensures) ∙ c.if-tried.false in
+    let fails : safe part given.bound ≡ false = sym c.in_ok-tried.ensures.is_safe ∙ c.if-tried.false in
     let waits : map now c.push.new.self ≡ map now given.waiting ++ part ∷ [] = ap (map now) c.in_ok-push.ensures.ok ∙ map-append now given.waiting _ in
     IfOk-weaker c.push-2.result _ _
     (λ done e. ap (λ (fs : List Formula). first_safe fs given.bound) waits ∙ none_more (map now given.waiting) given.bound part c.requires.none_safe fails)
@@ -164,7 +175,7 @@ look_at-returns-clause-lefts t c =
     let part = c.args.part.now in
     let left = c.in_ok-tried.tried.left in
     let waits : map now c.push.new.self ≡ map now given.waiting ++ part ∷ [] = ap (map now) c.in_ok-push.ensures.ok ∙ map-append now given.waiting _ in
-    let rest : Rest given.bound part left = subst (λ xs. Rest xs part left) c.as_slice.ensures c.in_ok-tried.ensures.left in
+    let rest : Rest given.bound part left = c.in_ok-tried.ensures.left in
     IfOk-weaker c.push-2.result _ _
     (λ done e. rests_push given.bound (map now c.push.new.self) (map now given.waiting) c.push-2.new.self given.lefts part left waits e c.requires.lefts rest)
     c.push-2.ensures.ok
@@ -177,7 +188,7 @@ take_waiting-returns-then-len-at-clause-none_safe t c =
     let lefts = c.loop-at.turns.lefts in
     let bound = c.loop-at.turns.bound in
     let at : c.in_ok-at.at ≡ safe_position (map now waiting) bound =
-    c.in_ok-at.ensures.position ∙ ap (safe_position lefts) c.as_slice.ensures ∙ rests_position bound (map now waiting) lefts c.loop-at.invariant.lefts in
+    c.in_ok-at.ensures.position ∙ rests_position bound (map now waiting) lefts c.loop-at.invariant.lefts in
     let long : length (map now waiting) ≡ length waiting = length-map waiting now in
     none_there (map now waiting) bound (omega (arith, at, long, c.len.ensures, c.if-len-at.true))
 
@@ -187,7 +198,7 @@ take_waiting-returns-then-len-at-clause-lefts t c =
     let lefts = c.loop-at.turns.lefts in
     let bound = c.loop-at.turns.bound in
     let after = c.first_safe_left.new.lefts in
-    let tried : Rests bound lefts after = subst (λ xs. Rests xs lefts after) c.as_slice.ensures c.in_ok-at.ensures.lefts in
+    let tried : Rests bound lefts after = c.in_ok-at.ensures.lefts in
     rests_then bound (map now waiting) lefts after c.loop-at.invariant.lefts tried
 
 pub take_waiting-remove-requires : goal.take_waiting-remove-requires
@@ -196,7 +207,7 @@ take_waiting-remove-requires t c =
     let lefts = c.loop-at.turns.lefts in
     let bound = c.loop-at.turns.bound in
     let after = c.first_safe_left.new.lefts in
-    let tried : Rests bound lefts after = subst (λ xs. Rests xs lefts after) c.as_slice.ensures c.in_ok-at.ensures.lefts in
+    let tried : Rests bound lefts after = c.in_ok-at.ensures.lefts in
     let long : length (map now waiting) ≡ length waiting = length-map waiting now in
     let same : length after ≡ length (map now waiting) = rests_length bound (map now waiting) after (rests_then bound (map now waiting) lefts after c.loop-at.invariant.lefts tried) in
     omega (arith, long, same, c.len.ensures, c.if-len-at.false)
@@ -215,14 +226,14 @@ take_waiting-loop-at-preserved t c =
     let lefts = c.loop-at.turns.lefts in
     let bound = c.loop-at.turns.bound in
     let after = c.first_safe_left.new.lefts in
-    let tried : Rests bound lefts after = subst (λ xs. Rests xs lefts after) c.as_slice.ensures c.in_ok-at.ensures.lefts in
+    let tried : Rests bound lefts after = c.in_ok-at.ensures.lefts in
     let taken = c.loop-at.turns.taken in
     let turn = c.take.new.self in
     let part = c.remove-part.result in
     let at = c.in_ok-at.at in
     let both : Rests bound (map now waiting) after = rests_then bound (map now waiting) lefts after c.loop-at.invariant.lefts tried in
     let first : at ≡ safe_position (map now waiting) bound =
-    c.in_ok-at.ensures.position ∙ ap (safe_position lefts) c.as_slice.ensures ∙ rests_position bound (map now waiting) lefts c.loop-at.invariant.lefts in
+    c.in_ok-at.ensures.position ∙ rests_position bound (map now waiting) lefts c.loop-at.invariant.lefts in
     let fewer : turn.waiting ≡ remove waiting at = c.in_ok-take.ensures.waiting ∙ c.remove-part.ensures.rest in
     let left : turn.lefts ≡ remove after at = c.in_ok-take.ensures.lefts ∙ c.remove.ensures.rest in
     record {

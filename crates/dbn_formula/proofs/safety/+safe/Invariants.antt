@@ -12,6 +12,9 @@ use Rattle.dbn_formula.proofs.safety.+safe.Given as goal
 abbrev pub decreases-trial : goal.decreases-trial
 decreases-trial l = weight l.f.now
 
+abbrev pub decreases-trial_inside : goal.decreases-trial_inside
+decreases-trial_inside l = weight l.body.now + 1
+
 abbrev pub decreases-each_tried : goal.decreases-each_tried
 decreases-each_tried l = sum_by weight l.parts.now + 1
 
