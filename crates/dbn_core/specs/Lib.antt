@@ -1,0 +1,5 @@
+pub mod Moves
+pub mod Fire
+pub mod Standing
+pub mod Group
+pub mod Answers
