@@ -1,5 +1,5 @@
 -- Stores byte by byte, and what they stand for, computed.
-use Rattle.std.proofs.Common.{◌≡◌, ℕ, ◌+◌, ◌^◌, true, false, List, [], ◌∷◌, ◌++◌, length, take, refl}
+use Rattle.std.proofs.Common.{◌≡◌, ℕ, ◌+◌, ◌^◌, true, false, List, [], ◌∷◌, ◌++◌, length, take, drop, refl}
 use Rattle.std.specs.Prelude.{codes}
 use Rattle.dbn_keeper.specs.Files.{Store, folder, file_of, new_store, with_body, place_behind}
 use Rattle.dbn_keeper.specs.Files.Folder.{NotMade, NotAStore, Holds}
@@ -75,3 +75,13 @@ new_file_of_a_checkpoint = refl
 foreign : (folder (file_of 1 start) (219 ∷ 68 ∷ []) ≡ NotAStore) × (folder (front 51 ++ 0 ∷ []) (file_of 1 start) ≡ NotAStore) × (folder (file_of 0 start) [] ≡ NotAStore) × (folder [] (file_of (2 ^ 62 + 1) start) ≡ NotAStore)
 unfolding front start
 foreign = (refl, refl, refl, refl)
+
+-- the second record is torn: the gate behind the first body is open, and the file ends behind the body
+torn_behind : folder (take 89 old_record ++ 219 ∷ 0 ∷ 0 ∷ 0 ∷ 2 ∷ 0 ∷ 0 ∷ []) [] ≡ Holds (record { form = One; base = start; generation = 1; bodies = (0 ∷ 0 ∷ []) ∷ []; torn = true })
+unfolding front start old_record
+torn_behind = refl
+
+-- a text that is longer than the file
+no_base : folder (take 29 (front 50) ++ 255 ∷ 255 ∷ 255 ∷ 255 ∷ drop 33 (front 50) ++ 0 ∷ []) [] ≡ NotAStore
+unfolding front start
+no_base = refl

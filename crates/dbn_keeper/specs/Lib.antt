@@ -1,8 +1,11 @@
 pub mod Appending
 pub mod Choosing
+pub mod Creating
 pub mod Files
+pub mod Headers
 pub mod Keeping
 pub mod Memory
 pub mod Plain
+pub mod Reading
 pub mod TwoFiles
 pub mod TwoLaws

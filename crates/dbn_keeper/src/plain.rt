@@ -1,12 +1,16 @@
 //! A keeper over one file.
 
-ghost use Rattle.std.specs.Prelude.{◌≡◌, ◌+◌, ◌^◌, ◌≤◌, Some, IsTrue, nat_le};
+ghost use Rattle.std.specs.Prelude.{◌≡◌, ◌+◌, ◌^◌, ◌≤◌, List, ℕ, Some, true, false, length, IsTrue};
 ghost use Rattle.dbn_keeper.specs.TwoFiles.{two_state, IsTwo};
+ghost use Rattle.dbn_disk.specs.Disk.{Only};
+ghost use Rattle.dbn_keeper.specs.Reading.{HoldsBase};
 ghost use Rattle.dbn_keeper.specs.Plain.{plain_cursor, no_disk};
 
 use crate::base::{Base, Step};
+use crate::find::Found;
 use crate::keeper::Keeper;
 use crate::opening::Form;
+use crate::sizes::{is_within, text_fits};
 use dbn_disk::Disk;
 use dbn_io::Trouble;
 use dbn_journal::{Gate, append, gate_at};
@@ -15,7 +19,7 @@ use std::alloc::Global;
 /// One file, whose generation is the last one: there is no checkpoint.
 #[derive(Drop)]
 pub struct PlainKeeper<D: Disk + Drop> {
-    disk: D,
+    pub(crate) disk: D,
     form: Form,
     base: Base,
     generation: u64,
@@ -111,20 +115,26 @@ impl<D: Disk + Drop> Keeper for PlainKeeper<D> {
     }
 }
 
-// Whether a body of `len` bytes behind the gate at `place`, with a gate behind it, ends within the cap.
-pub(crate) fn is_within(place: u64, len: usize, cap: u64) -> bool
-    requires { cap ≤ 2 ^ 61 }
-    ensures { result ≡ nat_le (place + 6 + len) cap }
+// The keeper of what was found on this disk.
+pub(crate) fn over<D: Disk + Drop>(disk: D, found: Found, file_bytes: u64) -> PlainKeeper<D>
+    requires holds { (x : List ℕ) → (D.state disk).content ≡ Some x → HoldsBase found.form found.base found.generation x }
+    requires settled { (x : List ℕ) → (D.state disk).content ≡ Some x → IsTrue (D.state disk).honest → Only x (D.state disk).image }
+    requires bound { file_bytes ≤ 2 ^ 61 }
+    ensures disk { result.disk ≡ disk }
+    ensures fresh { (result.live ≡ true) × (result.records ≡ 0) × (result.place ≡ 33 + length result.base.text) × (result.at_end ≡ false) × (result.file_bytes ≡ file_bytes) }
+    ensures last { (result.last ≡ 1) × (1 ≤ result.generation) }
 {
-    let len = len as u64;
-    len <= cap && place <= cap && place + 6 + len <= cap
-}
-
-// Whether a new file with a text of `len` bytes ends within the cap.
-pub(crate) fn text_fits(len: usize, cap: u64) -> bool
-    requires { cap ≤ 2 ^ 61 }
-    ensures { result ≡ nat_le (34 + len) cap }
-{
-    let len = len as u64;
-    len <= cap && 34 + len <= cap
+    let place = 33 + found.base.text.as_slice().len() as u64;
+    PlainKeeper {
+        disk,
+        form: found.form,
+        base: found.base,
+        generation: found.generation,
+        last: 1,
+        file_bytes,
+        records: 0,
+        place,
+        at_end: false,
+        live: true,
+    }
 }
