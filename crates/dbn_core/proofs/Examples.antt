@@ -1,9 +1,9 @@
 -- Firings and groups, computed on small nets.
-use Rattle.std.proofs.Common.{◌≡◌, ℕ, ◌+◌, ◌∙◌, pos, Bool, true, false, List, [], ◌∷◌, refl, sym, ap, Option, Some, None, Ok, Err, codes}
+use Rattle.std.proofs.Common.{◌≡◌, ℕ, ◌∙◌, pos, Bool, true, false, List, [], ◌∷◌, refl, ap, Some, None, Ok, Err, codes}
 use Rattle.std.specs.List.{list_all}
 use Rattle.std.specs.Option.{option_map_or}
 use Rattle.dbn_value.specs.declared.value.Value.{Value}
-use Rattle.dbn_value.specs.declared.value.Value.TheVariants.{Int, Text, Id}
+use Rattle.dbn_value.specs.declared.value.Value.TheVariants.{Int, Id}
 use Rattle.dbn_value.specs.declared.value.ColType.TheVariants as col
 use Rattle.dbn_value.specs.declared.term.Var.{Var}
 use Rattle.dbn_value.specs.declared.term.Term.TheVariants as term
@@ -25,7 +25,7 @@ use Rattle.dbn_net.specs.Sentences.{first_var, sentences, consistent}
 use Rattle.dbn_core.specs.declared.outcome.Fired.{Fired}
 use Rattle.dbn_core.specs.declared.outcome.Outcome.TheVariants.{Committed, RolledBack}
 use Rattle.dbn_core.specs.declared.outcome.Refusal.TheVariants.{Disabled, UnknownId, FreshEnd, FiringEnd, CountLimit}
-use Rattle.dbn_core.specs.Fire.{Firing, fire, fire_at, fire_in, fire_env, commits, refusal, refusal_at, after_fire, told}
+use Rattle.dbn_core.specs.Fire.{Firing, fire, fire_at, fire_in, fire_env, commits, refusal, refusal_at}
 use Rattle.dbn_core.specs.Group.{group}
 
 abbrev x : Var

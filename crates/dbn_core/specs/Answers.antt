@@ -1,5 +1,5 @@
 -- What the calls of a core answer, and what they leave.
-use Rattle.std.specs.Prelude.{◌≡◌, ℕ, Bool, true, false, List, Option, Some, None, Result, Ok, Err}
+use Rattle.std.specs.Prelude.{◌≡◌, Bool, true, false, List, Option, Some, None, Result, Ok, Err}
 use Rattle.dbn_net.specs.declared.snapshot.Snapshot.{Snapshot}
 use Rattle.dbn_core.specs.declared.outcome.Fired.{Fired}
 use Rattle.dbn_core.specs.declared.outcome.Refusal.{Refusal}
