@@ -1,7 +1,9 @@
+pub mod AnswerLaws
 pub mod ChangeLaws
 mod Examples
 pub mod KeyedLaws
 pub mod NodeLaws
+pub mod RowLaws
 pub mod ShelfLaws
 pub mod StandsLaws
 pub mod ValueLaws

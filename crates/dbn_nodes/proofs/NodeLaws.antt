@@ -1,5 +1,5 @@
 -- Kind by kind: what a node keeps follows a change of an input, and the events lead to the value after it.
-use Rattle.std.proofs.Common.{◌≡◌, ◌<◌, ◌+◌, ◌-◌, ◌==◌, ◌⊎◌, inl, inr, ⊎_elim, ℕ, zero, suc, Bool, true, false, cond, not, ◌&&◌, List, [], ◌∷◌, ◌++◌, map, refl, sym, ap, ◌∙◌, subst, length, take, nat_eq, nat_lt, arith}
+use Rattle.std.proofs.Common.{◌≡◌, ◌<◌, ◌≤◌, ◌+◌, ◌-◌, ◌==◌, ◌⊎◌, inl, inr, ⊎_elim, ℕ, zero, suc, Bool, true, false, cond, not, ◌&&◌, List, [], ◌∷◌, ◌++◌, map, refl, sym, ap, ◌∙◌, subst, length, take, nat_eq, nat_lt, arith}
 use Rattle.std.specs.declared.cmp.Ordering.{Ordering}
 use Rattle.std.specs.Ordering.{eq_by_cmp}
 use Rattle.std.specs.Cmp.{IsTotalOrder}
@@ -10,11 +10,12 @@ use Rattle.std.specs.List.Sorted.{IsStrictlySortedBy}
 use Rattle.std.proofs.lemmas.Bool.{true≢false, and_parts, and_from}
 use Rattle.std.proofs.lemmas.Bool.Decides.{nat_tests}
 use Rattle.std.proofs.lemmas.List.Kept.{IsStrictlySortedBy-filter}
+use Rattle.std.proofs.lemmas.List.{length-append, length-map}
 use Rattle.dbn_value.specs.Members.{In}
 use Rattle.dbn_value.specs.Picked.{picked}
 use Rattle.dbn_value.specs.Ascending.{ascending}
-use Rattle.dbn_value.proofs.MemberLaws.{in_filter, filter_in}
-use Rattle.dbn_value.proofs.AscendingLaws.{sorted_one, sorted_ascending, in_images, images_in, not_below_itself, head_below}
+use Rattle.dbn_value.proofs.MemberLaws.{in_filter, filter_in, in_append, in_map}
+use Rattle.dbn_value.proofs.AscendingLaws.{same_members, sorted_one, sorted_ascending, in_images, images_in, not_below_itself, head_below}
 use Rattle.std.proofs.lemmas.Map.Keys.{sorted_tail}
 use Rattle.dbn_nodes.specs.declared.event.Event.{Event}
 use Rattle.dbn_nodes.specs.declared.node.ColTest.{ColTest}
@@ -25,13 +26,13 @@ use Rattle.dbn_nodes.specs.declared.state.Kept.{Kept}
 use Rattle.dbn_nodes.specs.Tables.{choose, count_at, has, AreRowsOf}
 use Rattle.dbn_nodes.specs.Changes.{row_in, comes, signed, maybe, Leads}
 use Rattle.dbn_nodes.specs.Values.{passes, matched, joined, without, projected, either, extended, added_cells, value_of}
-use Rattle.dbn_nodes.specs.Stands.{firsts, seconds, PairsIn, AreOneWide, IsIndex, IsPlain, IsSupport, IsEither, Stands, Good, FollowsLeft, FollowsRight, LeadsLeft, LeadsRight}
+use Rattle.dbn_nodes.specs.Stands.{firsts, seconds, PairsIn, AreOneWide, IsIndex, IsPlain, IsSupport, IsEither, Stands, Good, FollowsLeft, FollowsRight, LeadOn, most_left, most_right, LeadsLeft, LeadsRight}
 use Rattle.dbn_nodes.proofs.ChangeLaws.{Adds, Apart, Moves, rows_exact, row_in_rows, in_row, itself, same_row, other_row, one_moves, moved_on}
 use Rattle.dbn_nodes.proofs.ValueLaws.{filter_adds, image_adds, union_adds, union_adds_right, without_adds, fronts, join_left_adds, join_right_adds, matched_same, same_matched}
 use Rattle.dbn_nodes.proofs.StandsLaws.{was_there, index_moves, tally_here, tally_moves, either_counts, either_counts_right, filter_more, others_stay}
 
 module _ {C : Type 0} {R : C → C → Ordering} (o : IsTotalOrder R) (exact : IsAntisymmetric R) where
-  sorted_value : (n : Node C) (s t : List (List C)) → IsStrictlySortedBy (slice_cmp R) s → IsStrictlySortedBy (slice_cmp R) (value_of R n s t)
+  pub sorted_value : (n : Node C) (s t : List (List C)) → IsStrictlySortedBy (slice_cmp R) s → IsStrictlySortedBy (slice_cmp R) (value_of R n s t)
   sorted_value node.Unit s t ss = sorted_one (slice_cmp R) []
   sorted_value (node.Scan feed) s t ss = ss
   sorted_value (node.Select from tests) s t ss = IsStrictlySortedBy-filter (slice_cmp R) (λ row. list_all (passes R row) tests) s ss
@@ -47,19 +48,52 @@ module _ {C : Type 0} {R : C → C → Ordering} (o : IsTotalOrder R) (exact : I
   moves_by true V P r rows s z ps pz each a = each s z ps pz a
   moves_by false V P r rows s z ps pz each a = each z s pz ps a
 
+  row_of_signed : (b : Bool) (row : List C) → row_in (signed b row) ≡ row
+  row_of_signed true row = refl
+  row_of_signed false row = refl
+
+  moved_row : (b : Bool) (v rows w : List (List C)) (r : List C) → Moves b v rows w → In r rows → In r v ⊎ In r w
+  moved_row true v rows w r m at = inr (m.front r at)
+  moved_row false v rows w r m at = inl (m.front r at)
+
+  lead_on : (b : Bool) (rows : List (List C)) (was out : List (Event C)) (v w : List (List C)) (most : ℕ) → out ≡ was ++ map (signed b) rows → IsStrictlySortedBy (slice_cmp R) v → IsStrictlySortedBy (slice_cmp R) w
+      → Moves b v rows w → length rows ≤ most → LeadOn R was out v w most
+  lead_on b rows was out v w most is sv sw m many = record {
+    leads = λ begin first. moved_on o exact b begin v rows w was out sv sw m first is;
+    rows = λ x at. ⊎_elim (λ before. inl before)
+        (λ new.
+        let image = in_map (signed b) x rows new in
+        inr (subst (λ r. In r v ⊎ In r w) (sym (ap row_in image.2 ∙ row_of_signed b image.0)) (moved_row b v rows w image.0 m image.1)))
+        (in_append x was (map (signed b) rows) (subst (λ es. In x es) is at));
+    few =
+        let size : length out ≡ length was + length (map (signed b) rows) = ap length is ∙ length-append was (map (signed b) rows) in
+        let same : length (map (signed b) rows) ≡ length rows = length-map rows (signed b) in
+        omega arith;
+  }
+
+  -- nothing changes, and there are no new events
+  pub stays : (v : List (List C)) (was : List (Event C)) (most : ℕ) → LeadOn R was was v v most
+  stays v was most = record { leads = λ b first. first; rows = λ x at. inl at; few = omega arith }
+
+  at_most_one : (b : Bool) (x : List C) → length (maybe b x) ≤ 1
+  at_most_one true x = omega arith
+  at_most_one false x = omega arith
+
   pub leads_left : (n : Node C) (old : Kept C) (e : Event C) (rows : List (List C)) (was out : List (Event C)) → out ≡ was ++ map (signed (comes e)) rows
+      → ((s z t : List (List C)) → Good R n s t → Good R n z t → Stands R n old s t → Moves (comes e) s (row_in e ∷ []) z → length rows ≤ most_left R n (row_in e) t)
       → ((s z t : List (List C)) → Good R n s t → Good R n z t → Stands R n old s t → Moves (comes e) s (row_in e ∷ []) z → Moves (comes e) (value_of R n s t) rows (value_of R n z t))
       → LeadsLeft R n old e was out
-  leads_left n old e rows was out is each b s z t gs gz st led first =
-      moved_on o exact (comes e) b (value_of R n s t) rows (value_of R n z t) was out (sorted_value n s t gs.lefts) (sorted_value n z t gz.lefts)
-      (each s z t gs gz st (one_moves o exact e s z gs.lefts led)) first is
+  leads_left n old e rows was out is many each s z t gs gz st led =
+      lead_on (comes e) rows was out (value_of R n s t) (value_of R n z t) (most_left R n (row_in e) t) is (sorted_value n s t gs.lefts) (sorted_value n z t gz.lefts)
+      (each s z t gs gz st (one_moves o exact e s z gs.lefts led)) (many s z t gs gz st (one_moves o exact e s z gs.lefts led))
 
   pub leads_right : (n : Node C) (old : Kept C) (e : Event C) (sign : Bool) (rows : List (List C)) (was out : List (Event C)) → out ≡ was ++ map (signed sign) rows
+      → ((s t u : List (List C)) → Good R n s t → Good R n s u → Stands R n old s t → Moves (comes e) t (row_in e ∷ []) u → length rows ≤ most_right R n (row_in e) s)
       → ((s t u : List (List C)) → Good R n s t → Good R n s u → Stands R n old s t → Moves (comes e) t (row_in e ∷ []) u → Moves sign (value_of R n s t) rows (value_of R n s u))
       → LeadsRight R n old e was out
-  leads_right n old e sign rows was out is each b s t u gt gu st led first =
-      moved_on o exact sign b (value_of R n s t) rows (value_of R n s u) was out (sorted_value n s t gt.lefts) (sorted_value n s u gu.lefts)
-      (each s t u gt gu st (one_moves o exact e t u gt.rights led)) first is
+  leads_right n old e sign rows was out is many each s t u gt gu st led =
+      lead_on sign rows was out (value_of R n s t) (value_of R n s u) (most_right R n (row_in e) s) is (sorted_value n s t gt.lefts) (sorted_value n s u gu.lefts)
+      (each s t u gt gu st (one_moves o exact e t u gt.rights led)) (many s t u gt gu st (one_moves o exact e t u gt.rights led))
 
   one_of : (b : Bool) → nat_lt 0 (choose b 1 0) ≡ b
   one_of true = refl
@@ -76,15 +110,20 @@ module _ {C : Type 0} {R : C → C → Ordering} (o : IsTotalOrder R) (exact : I
   pub plain_has : (table : List (List C × List (List C × ℕ))) (s : List (List C)) (r : List C) → IsPlain R table s → nat_lt 0 (count_at (slice_cmp R) table [] r) ≡ has (slice_cmp R) s r
   plain_has table s r stands = index_has table (λ x. []) s [] r stands ∙ ap (λ b. has (slice_cmp R) s r && b) (itself o exact []) ∙ and_true (has (slice_cmp R) s r)
 
+  -- ---- inputs that a node does not have
+
+  pub no_left : (old : Kept C) (e : Event C) (was : List (Event C)) → LeadsLeft R node.Unit old e was was
+  no_left old e was s z t gs gz st led = stays ([] ∷ []) was 1
+
   -- ---- Scan and Select
 
   pub scan_leads : (feed : ℕ) (old : Kept C) (e : Event C) (was out : List (Event C)) → out ≡ was ++ map (signed (comes e)) (maybe true (row_in e)) → LeadsLeft R (node.Scan feed) old e was out
-  scan_leads feed old e was out is = leads_left (node.Scan feed) old e (row_in e ∷ []) was out is (λ s z t gs gz st m. m)
+  scan_leads feed old e was out is = leads_left (node.Scan feed) old e (row_in e ∷ []) was out is (λ s z t gs gz st m. omega arith) (λ s z t gs gz st m. m)
 
   pub select_leads : (from : ℕ) (tests : List (ColTest C)) (old : Kept C) (e : Event C) (was out : List (Event C)) → out ≡ was ++ map (signed (comes e)) (maybe (list_all (passes R (row_in e)) tests) (row_in e))
       → LeadsLeft R (node.Select from tests) old e was out
   select_leads from tests old e was out is =
-      leads_left (node.Select from tests) old e (maybe (list_all (passes R (row_in e)) tests) (row_in e)) was out is
+      leads_left (node.Select from tests) old e (maybe (list_all (passes R (row_in e)) tests) (row_in e)) was out is (λ s z t gs gz st m. at_most_one (list_all (passes R (row_in e)) tests) (row_in e))
       (λ s z t gs gz st m. moves_by (comes e) (filter (λ row. list_all (passes R row) tests)) (λ x. Unit {0}) (row_in e) (maybe (list_all (passes R (row_in e)) tests) (row_in e)) s z tt tt
       (λ x y px py a. filter_adds (λ row. list_all (passes R row) tests) x y (row_in e) a) m)
 
@@ -93,7 +132,7 @@ module _ {C : Type 0} {R : C → C → Ordering} (o : IsTotalOrder R) (exact : I
   pub diff_left_leads : (l r : ℕ) (old : Kept C) (e : Event C) (shown : Bool) (was out : List (Event C)) → shown ≡ not (nat_lt 0 (count_at (slice_cmp R) old.rights [] (row_in e)))
       → out ≡ was ++ map (signed (comes e)) (maybe shown (row_in e)) → LeadsLeft R (node.Diff l r) old e was out
   diff_left_leads l r old e shown was out test is =
-      leads_left (node.Diff l r) old e (maybe shown (row_in e)) was out is
+      leads_left (node.Diff l r) old e (maybe shown (row_in e)) was out is (λ s z t gs gz st m. at_most_one shown (row_in e))
       (λ s z t gs gz st m.
       subst (λ h. Moves (comes e) (without R s t) (maybe h (row_in e)) (without R z t)) (sym (test ∙ ap not (plain_has old.rights t (row_in e) st.1)))
       (moves_by (comes e) (λ x. without R x t) (λ x. Unit {0}) (row_in e) (maybe (not (has (slice_cmp R) t (row_in e))) (row_in e)) s z tt tt
@@ -106,7 +145,7 @@ module _ {C : Type 0} {R : C → C → Ordering} (o : IsTotalOrder R) (exact : I
   pub diff_right_leads : (l r : ℕ) (old : Kept C) (e : Event C) (shown : Bool) (was out : List (Event C)) → shown ≡ nat_lt 0 (count_at (slice_cmp R) old.lefts [] (row_in e))
       → out ≡ was ++ map (signed (not (comes e))) (maybe shown (row_in e)) → LeadsRight R (node.Diff l r) old e was out
   diff_right_leads l r old e shown was out test is =
-      leads_right (node.Diff l r) old e (not (comes e)) (maybe shown (row_in e)) was out is
+      leads_right (node.Diff l r) old e (not (comes e)) (maybe shown (row_in e)) was out is (λ s z t gs gz st m. at_most_one shown (row_in e))
       (λ s t u gt gu st m.
       subst (λ h. Moves (not (comes e)) (without R s t) (maybe h (row_in e)) (without R s u)) (sym (test ∙ plain_has old.lefts s (row_in e) st.0)) (turned_moves (comes e) s t u (row_in e) m))
 
@@ -156,7 +195,7 @@ module _ {C : Type 0} {R : C → C → Ordering} (o : IsTotalOrder R) (exact : I
   pub union_left_leads : (l r : ℕ) (old : Kept C) (e : Event C) (turned : Bool) (was out : List (Event C)) → turned ≡ (count_at (slice_cmp R) old.supports [] (row_in e) == choose (comes e) 0 1)
       → out ≡ was ++ map (signed (comes e)) (maybe turned (row_in e)) → LeadsLeft R (node.Union l r) old e was out
   union_left_leads l r old e turned was out test is =
-      leads_left (node.Union l r) old e (maybe turned (row_in e)) was out is
+      leads_left (node.Union l r) old e (maybe turned (row_in e)) was out is (λ s z t gs gz st m. at_most_one turned (row_in e))
       (λ s z t gs gz st m.
       let h : Bool = has (slice_cmp R) t (row_in e) in
       let found : turned ≡ not h =
@@ -168,7 +207,7 @@ module _ {C : Type 0} {R : C → C → Ordering} (o : IsTotalOrder R) (exact : I
   pub union_right_leads : (l r : ℕ) (old : Kept C) (e : Event C) (turned : Bool) (was out : List (Event C)) → turned ≡ (count_at (slice_cmp R) old.supports [] (row_in e) == choose (comes e) 0 1)
       → out ≡ was ++ map (signed (comes e)) (maybe turned (row_in e)) → LeadsRight R (node.Union l r) old e was out
   union_right_leads l r old e turned was out test is =
-      leads_right (node.Union l r) old e (comes e) (maybe turned (row_in e)) was out is
+      leads_right (node.Union l r) old e (comes e) (maybe turned (row_in e)) was out is (λ s z t gs gz st m. at_most_one turned (row_in e))
       (λ s t u gt gu st m.
       let h : Bool = has (slice_cmp R) s (row_in e) in
       let found : turned ≡ not h =
@@ -238,7 +277,7 @@ module _ {C : Type 0} {R : C → C → Ordering} (o : IsTotalOrder R) (exact : I
   pub project_leads : (from : ℕ) (cols : List ℕ) (old : Kept C) (e : Event C) (turned : Bool) (was out : List (Event C)) → turned ≡ (count_at (slice_cmp R) old.supports [] (picked cols (row_in e)) == choose (comes e) 0 1)
       → out ≡ was ++ map (signed (comes e)) (maybe turned (picked cols (row_in e))) → LeadsLeft R (node.Project from cols) old e was out
   project_leads from cols old e turned was out test is =
-      leads_left (node.Project from cols) old e (maybe turned (picked cols (row_in e))) was out is
+      leads_left (node.Project from cols) old e (maybe turned (picked cols (row_in e))) was out is (λ s z t gs gz st m. at_most_one turned (picked cols (row_in e)))
       (λ s z t gs gz st m. project_moves (comes e) cols s z (row_in e) turned gs.lefts gz.lefts
       (test ∙ ap (λ n. n == choose (comes e) 0 1) (tally_here o exact old.supports (λ p. length (filter (λ q. eq_by_cmp (slice_cmp R) p (picked cols q)) s)) (picked cols (row_in e)) st)) m)
 
@@ -271,7 +310,7 @@ module _ {C : Type 0} {R : C → C → Ordering} (o : IsTotalOrder R) (exact : I
   pub extend_leads : (from : ℕ) (with : Added C) (old : Kept C) (e : Event C) (was out : List (Event C)) → out ≡ was ++ map (signed (comes e)) (maybe true (row_in e ++ added_cells with (row_in e)))
       → LeadsLeft R (node.Extend from with) old e was out
   extend_leads from with old e was out is =
-      leads_left (node.Extend from with) old e (maybe true (row_in e ++ added_cells with (row_in e))) was out is
+      leads_left (node.Extend from with) old e (maybe true (row_in e ++ added_cells with (row_in e))) was out is (λ s z t gs gz st m. at_most_one true (row_in e ++ added_cells with (row_in e)))
       (λ s z t gs gz st m. moves_by (comes e) (extended R with) AreOneWide (row_in e) (maybe true (row_in e ++ added_cells with (row_in e))) s z gs.suits gz.suits
       (λ x y px py a. image_adds o exact (λ row. row ++ added_cells with row) x y (row_in e) true
       (λ once at.
@@ -281,7 +320,7 @@ module _ {C : Type 0} {R : C → C → Ordering} (o : IsTotalOrder R) (exact : I
 
   -- ---- Join
 
-  sorted_apart : (rows : List (List C)) → IsStrictlySortedBy (slice_cmp R) rows → Apart rows
+  pub sorted_apart : (rows : List (List C)) → IsStrictlySortedBy (slice_cmp R) rows → Apart rows
   sorted_apart [] s = tt
   sorted_apart (x ∷ rows) s = (λ at. not_below_itself (lists_total o) x (head_below (slice_cmp R) x rows x s at), sorted_apart rows (sorted_tail (slice_cmp R) x rows s))
 
@@ -297,10 +336,38 @@ module _ {C : Type 0} {R : C → C → Ordering} (o : IsTotalOrder R) (exact : I
       row_in_rows o exact b others
       (rows.members b ∙ index_has table key_of s key b st ∙ and_from (has (slice_cmp R) s b) (eq_by_cmp (slice_cmp R) (key_of b) key) (in_row o exact b s at) (subst (λ k. eq_by_cmp (slice_cmp R) (key_of b) k ≡ true) same (itself o exact (key_of b))))
 
+  -- the rows under the key are those that match
+  pub left_others : (on : List (ℕ × ℕ)) (table : List (List C × List (List C × ℕ))) (t others : List (List C)) (r : List C) → IsStrictlySortedBy (slice_cmp R) t → ((b : List C) → In b t → PairsIn on r b)
+      → IsIndex R table (picked (seconds on)) t → AreRowsOf (slice_cmp R) table (picked (firsts on) r) others → others ≡ filter (matched R on r) t
+  left_others on table t others r sorted within st rows =
+      same_members (lists_total o) others (filter (matched R on r) t) rows.ascends (IsStrictlySortedBy-filter (slice_cmp R) (matched R on r) t sorted)
+      (λ b at.
+      let found = under_key table (picked (seconds on)) t others (picked (firsts on) r) b st rows at in
+      filter_in (matched R on r) b t found.0 (same_matched o exact on r b (within b found.0) (sym found.1)))
+      (λ b at.
+      let found = in_filter (matched R on r) b t at in
+      has_key table (picked (seconds on)) t others (picked (firsts on) r) b st rows found.0 (sym (matched_same o exact on r b found.1)))
+
+  right_others : (on : List (ℕ × ℕ)) (table : List (List C × List (List C × ℕ))) (s others : List (List C)) (r : List C) → IsStrictlySortedBy (slice_cmp R) s → ((a : List C) → In a s → PairsIn on a r)
+      → IsIndex R table (picked (firsts on)) s → AreRowsOf (slice_cmp R) table (picked (seconds on) r) others → others ≡ filter (λ a. matched R on a r) s
+  right_others on table s others r sorted within st rows =
+      same_members (lists_total o) others (filter (λ a. matched R on a r) s) rows.ascends (IsStrictlySortedBy-filter (slice_cmp R) (λ a. matched R on a r) s sorted)
+      (λ a at.
+      let found = under_key table (picked (firsts on)) s others (picked (seconds on) r) a st rows at in
+      filter_in (λ x. matched R on x r) a s found.0 (same_matched o exact on a r (within a found.0) found.1))
+      (λ a at.
+      let found = in_filter (λ x. matched R on x r) a s at in
+      has_key table (picked (firsts on)) s others (picked (seconds on) r) a st rows found.0 (matched_same o exact on a r found.1))
+
+  as_many : (f : List C → List C) (others same : List (List C)) → others ≡ same → length (map f others) ≤ length same
+  as_many f others same is = let size : length (map f others) ≡ length others = length-map others f in let count : length others ≡ length same = ap length is in omega arith
+
   pub join_left_leads : (l r : ℕ) (on : List (ℕ × ℕ)) (old : Kept C) (e : Event C) (others : List (List C)) (was out : List (Event C)) → AreRowsOf (slice_cmp R) old.rights (picked (firsts on) (row_in e)) others
       → out ≡ was ++ map (signed (comes e)) (map (λ b. row_in e ++ b) others) → LeadsLeft R (node.Join l r on) old e was out
   join_left_leads l r on old e others was out rows is =
       leads_left (node.Join l r on) old e (map (λ b. row_in e ++ b) others) was out is
+      (λ s z t gs gz st m. as_many (λ b. row_in e ++ b) others (filter (matched R on (row_in e)) t) (left_others on old.rights t others (row_in e) gs.rights
+      (λ b bt. ⊎_elim (λ at. gs.suits.1 (row_in e) b at bt) (λ at. gz.suits.1 (row_in e) b at bt) (moved_row (comes e) s (row_in e ∷ []) z (row_in e) m (inl refl))) st.1 rows))
       (λ s z t gs gz st m. moves_by (comes e) (λ x. joined R on x t) (λ x. AreOneWide x × ((a b : List C) → In a x → In b t → PairsIn on a b)) (row_in e) (map (λ b. row_in e ++ b) others) s z gs.suits gz.suits
       (λ x y px py a. join_left_adds o exact on x y t others (row_in e) py.0 (sorted_apart others rows.ascends)
       (λ b at. let found = under_key old.rights (picked (seconds on)) t others (picked (firsts on) (row_in e)) b st.1 rows at in
@@ -312,6 +379,8 @@ module _ {C : Type 0} {R : C → C → Ordering} (o : IsTotalOrder R) (exact : I
       → out ≡ was ++ map (signed (comes e)) (map (λ b. b ++ row_in e) others) → LeadsRight R (node.Join l r on) old e was out
   join_right_leads l r on old e others was out rows is =
       leads_right (node.Join l r on) old e (comes e) (map (λ b. b ++ row_in e) others) was out is
+      (λ s t u gt gu st m. as_many (λ b. b ++ row_in e) others (filter (λ a. matched R on a (row_in e)) s) (right_others on old.lefts s others (row_in e) gt.lefts
+      (λ a as_left. ⊎_elim (λ at. gt.suits.1 a (row_in e) as_left at) (λ at. gu.suits.1 a (row_in e) as_left at) (moved_row (comes e) t (row_in e ∷ []) u (row_in e) m (inl refl))) st.0 rows))
       (λ s t u gt gu st m. moves_by (comes e) (λ x. joined R on s x) (λ x. AreOneWide s × ((a b : List C) → In a s → In b x → PairsIn on a b)) (row_in e) (map (λ b. b ++ row_in e) others) t u gt.suits gu.suits
       (λ x y px py a. join_right_adds o exact on s x y others (row_in e) py.0 (sorted_apart others rows.ascends)
       (λ b at. let found = under_key old.lefts (picked (firsts on)) s others (picked (seconds on) (row_in e)) b st.0 rows at in
@@ -319,17 +388,17 @@ module _ {C : Type 0} {R : C → C → Ordering} (o : IsTotalOrder R) (exact : I
       (λ b bs meets. has_key old.lefts (picked (firsts on)) s others (picked (seconds on) (row_in e)) b st.0 rows bs (matched_same o exact on b (row_in e) meets))
       a) m)
 
-  pub join_left_stands : (l r : ℕ) (on : List (ℕ × ℕ)) (old new : Kept C) (e : Event C)
-      → ((k q : List C) → count_at (slice_cmp R) new.lefts k q ≡ cond (eq_by_cmp (slice_cmp R) (picked (firsts on) (row_in e)) k && eq_by_cmp (slice_cmp R) (row_in e) q) (choose (comes e) 1 0) (count_at (slice_cmp R) old.lefts k q))
+  pub join_left_stands : (l r : ℕ) (on : List (ℕ × ℕ)) (old new : Kept C) (e : Event C) (key : List C) → key ≡ picked (firsts on) (row_in e)
+      → ((k q : List C) → count_at (slice_cmp R) new.lefts k q ≡ cond (eq_by_cmp (slice_cmp R) key k && eq_by_cmp (slice_cmp R) (row_in e) q) (choose (comes e) 1 0) (count_at (slice_cmp R) old.lefts k q))
       → new.rights ≡ old.rights → FollowsLeft R (node.Join l r on) old new e
-  join_left_stands l r on old new e counts same s z t gs gz st led =
-      (mark_stands old.lefts new.lefts (picked (firsts on)) e (picked (firsts on) (row_in e)) s z refl counts st.0 (one_moves o exact e s z gs.lefts led), subst (λ x. IsIndex R x (picked (seconds on)) t) (sym same) st.1)
+  join_left_stands l r on old new e key is counts same s z t gs gz st led =
+      (mark_stands old.lefts new.lefts (picked (firsts on)) e key s z is counts st.0 (one_moves o exact e s z gs.lefts led), subst (λ x. IsIndex R x (picked (seconds on)) t) (sym same) st.1)
 
-  pub join_right_stands : (l r : ℕ) (on : List (ℕ × ℕ)) (old new : Kept C) (e : Event C)
-      → ((k q : List C) → count_at (slice_cmp R) new.rights k q ≡ cond (eq_by_cmp (slice_cmp R) (picked (seconds on) (row_in e)) k && eq_by_cmp (slice_cmp R) (row_in e) q) (choose (comes e) 1 0) (count_at (slice_cmp R) old.rights k q))
+  pub join_right_stands : (l r : ℕ) (on : List (ℕ × ℕ)) (old new : Kept C) (e : Event C) (key : List C) → key ≡ picked (seconds on) (row_in e)
+      → ((k q : List C) → count_at (slice_cmp R) new.rights k q ≡ cond (eq_by_cmp (slice_cmp R) key k && eq_by_cmp (slice_cmp R) (row_in e) q) (choose (comes e) 1 0) (count_at (slice_cmp R) old.rights k q))
       → new.lefts ≡ old.lefts → FollowsRight R (node.Join l r on) old new e
-  join_right_stands l r on old new e counts same s t u gt gu st led =
-      (subst (λ x. IsIndex R x (picked (firsts on)) s) (sym same) st.0, mark_stands old.rights new.rights (picked (seconds on)) e (picked (seconds on) (row_in e)) t u refl counts st.1 (one_moves o exact e t u gt.rights led))
+  join_right_stands l r on old new e key is counts same s t u gt gu st led =
+      (subst (λ x. IsIndex R x (picked (firsts on)) s) (sym same) st.0, mark_stands old.rights new.rights (picked (seconds on)) e key t u is counts st.1 (one_moves o exact e t u gt.rights led))
 
   -- ---- a new node
 

@@ -1,5 +1,5 @@
 -- Events, and where they lead: from one ascending list of rows to another. R is the order of cells.
-use Rattle.std.specs.Prelude.{◌≡◌, Bool, true, false, cond, List, [], ◌∷◌, map}
+use Rattle.std.specs.Prelude.{◌≡◌, Bool, true, false, cond, List, [], ◌∷◌, ◌++◌}
 use Rattle.std.specs.declared.cmp.Ordering.{Ordering}
 use Rattle.std.specs.Cmp.Lexicographic.{slice_cmp}
 use Rattle.std.specs.BTreeMap.{is_at}
@@ -23,6 +23,10 @@ module _ {C : Type 0} where
   -- the event that a row comes, or that it goes
   abbrev pub signed : Bool → List C → Event C
   signed b row = cond b (event.Plus row) (event.Minus row)
+
+  -- the row before the other one, or behind it
+  abbrev pub paired : Bool → List C → List C → List C
+  paired front row other = cond front (row ++ other) (other ++ row)
 
   module _ (R : C → C → Ordering) where
     -- the events, one after the other, make t of s: a row that comes isn't there at its turn, and a row that goes is

@@ -1,5 +1,5 @@
 -- What a node keeps stands for its inputs, and what a change of an input does. R is the order of cells.
-use Rattle.std.specs.Prelude.{◌≡◌, ◌<◌, ◌+◌, ℕ, Bool, ◌&&◌, List, [], ◌∷◌, map, length}
+use Rattle.std.specs.Prelude.{◌≡◌, ◌<◌, ◌≤◌, ◌+◌, ◌⊎◌, ℕ, Bool, ◌&&◌, List, [], ◌∷◌, map, length}
 use Rattle.std.specs.declared.cmp.Ordering.{Ordering}
 use Rattle.std.specs.Ordering.{eq_by_cmp}
 use Rattle.std.specs.Cmp.Lexicographic.{slice_cmp}
@@ -12,8 +12,8 @@ use Rattle.dbn_nodes.specs.declared.node.Node.{Node}
 use Rattle.dbn_nodes.specs.declared.node.Node.TheVariants as node
 use Rattle.dbn_nodes.specs.declared.state.Kept.{Kept}
 use Rattle.dbn_nodes.specs.Tables.{choose, count_at, has}
-use Rattle.dbn_nodes.specs.Changes.{Leads}
-use Rattle.dbn_nodes.specs.Values.{value_of}
+use Rattle.dbn_nodes.specs.Changes.{row_in, Leads}
+use Rattle.dbn_nodes.specs.Values.{matched, value_of}
 
 -- the columns of the left input that a join compares, and those of the right one
 abbrev pub firsts : List (ℕ × ℕ) → List ℕ
@@ -85,10 +85,26 @@ module _ {C : Type 0} (R : C → C → Ordering) where
   abbrev pub FollowsRight : Node C → Kept C → Kept C → Event C → Type 0
   FollowsRight n old new e = (s t u : List (List C)) → Good n s t → Good n s u → Stands n old s t → Leads R t (e ∷ []) u → Stands n new s u
 
-  -- events that led to the node's value before a change of its left input lead to the value after it
+  -- events appended to earlier ones: those that led to v lead on to w, each new one is of a row that v or w has, and there are at most so many new ones
+  pub record LeadOn (was out : List (Event C)) (v w : List (List C)) (most : ℕ) : Type 0 where
+    pub leads : (b : List (List C)) → Leads R b was v → Leads R b out w
+    pub rows : (x : Event C) → In x out → In x was ⊎ (In (row_in x) v ⊎ In (row_in x) w)
+    pub few : length out ≤ length was + most
+
+  -- how many events a change of the left input makes at most: of a join one for each right row that matches
+  abbrev pub most_left : Node C → List C → List (List C) → ℕ
+  most_left (node.Join left right on) row t = length (filter (matched R on row) t)
+  most_left n row t = 1
+
+  -- .. of the right input
+  abbrev pub most_right : Node C → List C → List (List C) → ℕ
+  most_right (node.Join left right on) row s = length (filter (λ a. matched R on a row) s)
+  most_right n row s = 1
+
+  -- events that led to the node's value before a change of its left input lead on to the value after it
   abbrev pub LeadsLeft : Node C → Kept C → Event C → List (Event C) → List (Event C) → Type 0
-  LeadsLeft n old e was out = (b s z t : List (List C)) → Good n s t → Good n z t → Stands n old s t → Leads R s (e ∷ []) z → Leads R b was (value_of R n s t) → Leads R b out (value_of R n z t)
+  LeadsLeft n old e was out = (s z t : List (List C)) → Good n s t → Good n z t → Stands n old s t → Leads R s (e ∷ []) z → LeadOn was out (value_of R n s t) (value_of R n z t) (most_left n (row_in e) t)
 
   -- .. of its right input
   abbrev pub LeadsRight : Node C → Kept C → Event C → List (Event C) → List (Event C) → Type 0
-  LeadsRight n old e was out = (b s t u : List (List C)) → Good n s t → Good n s u → Stands n old s t → Leads R t (e ∷ []) u → Leads R b was (value_of R n s t) → Leads R b out (value_of R n s u)
+  LeadsRight n old e was out = (s t u : List (List C)) → Good n s t → Good n s u → Stands n old s t → Leads R t (e ∷ []) u → LeadOn was out (value_of R n s t) (value_of R n s u) (most_right n (row_in e) s)

@@ -1,11 +1,13 @@
-ghost use Rattle.std.specs.Prelude.{◌≡◌, ◌+◌, ◌<◌, ◌&&◌, ◌↔◌, List, [], if◌then◌else◌, length, None, IfOk, OnOk, OnErr, IsTrue};
+ghost use Rattle.std.specs.Prelude.{◌≡◌, ◌+◌, ◌<◌, ◌&&◌, ◌↔◌, ◌++◌, List, [], if◌then◌else◌, map, length, None, IfOk, OnOk, OnErr, IsTrue};
 ghost use Rattle.std.specs.Ordering.{eq_by_cmp};
 ghost use Rattle.std.specs.Cmp.Lexicographic.{slice_cmp};
 ghost use Rattle.std.specs.Map.{lookup};
 ghost use Rattle.std.specs.BTreeMap.{is_at};
 ghost use Rattle.dbn_nodes.specs.Tables.{count_at, AreRowsOf};
+ghost use Rattle.dbn_nodes.specs.Changes.{signed, paired};
 
-use super::shelf::Shelf;
+use super::event::Events;
+use super::shelf::{Shelf, Way};
 use super::steps::Steps;
 use dbn_value::{Cell, Row, RowsOf};
 use sqlite_items::Items;
@@ -133,6 +135,32 @@ impl<C: Cell> Keyed<C> {
             }
             None => {
                 return Ok(Items::new(alloc));
+            }
+        }
+    }
+
+    /// Appends for each row under the key, joined to the given one, the event that it comes or goes. It takes one step, and one
+    /// more for each row; no row is copied but into the events. An error is want of memory.
+    pub(crate) fn join<L: Ledger>(
+        &self,
+        alloc: Global,
+        key: &Row<C>,
+        row: &Row<C>,
+        way: Way,
+        out: &mut Events<C>,
+        steps: &mut Steps<L>,
+    ) -> Result<(), AllocError>
+        ensures out { OnOk result ((others : List (List C)) × AreRowsOf (slice_cmp C.cmp) self.now key.now others × (out.new ≡ out.old ++ map (signed way.comes) (map (paired way.front row.now) others))) }
+        ensures cost { OnOk result (steps.new + length out.old ≡ steps.old + 1 + length out.new) }
+    {
+        steps.tick();
+        match self.shelves.get(key) {
+            Some(shelf) => {
+                shelf.join(alloc, row, way, out, steps)?;
+                return Ok(());
+            }
+            None => {
+                return Ok(());
             }
         }
     }

@@ -2,13 +2,19 @@
 //! what the node keeps and what it is worth.
 #![tactic(auto)]
 
+mod answering;
+mod changes;
+mod counts;
 mod event;
+mod following;
 mod keyed;
 mod node;
+mod rows;
 mod shelf;
 mod state;
 mod steps;
 
+pub use counts::{holds, mark};
 pub use event::{Event, Events};
 pub use keyed::Keyed;
 pub use node::{Added, ColTest, ColTests, Node, Pairs};

@@ -1,11 +1,13 @@
-ghost use Rattle.std.specs.Prelude.{◌≡◌, ◌+◌, ◌<◌, ◌++◌, List, [], if◌then◌else◌, true, false, map, length, IfOk, OnOk, OnErr};
+ghost use Rattle.std.specs.Prelude.{◌≡◌, ◌+◌, ◌<◌, ◌++◌, List, [], ◌∷◌, if◌then◌else◌, true, false, map, length, IfOk, OnOk, OnErr};
 ghost use Rattle.std.specs.Cmp.Lexicographic.{slice_cmp};
 ghost use Rattle.std.specs.BTreeMap.{is_at};
 ghost use Rattle.std.specs.Map.{keys_of};
 ghost use Rattle.dbn_nodes.specs.Tables.{shelf_count, IsShelf, IsFilled};
+ghost use Rattle.dbn_nodes.specs.Changes.{signed, paired};
 
+use super::event::{Event, Events};
 use super::steps::Steps;
-use dbn_value::{Cell, CopyIn, Row, RowsOf};
+use dbn_value::{Cell, CopyIn, Row, RowsOf, join_rows};
 use sqlite_items::Items;
 use std::alloc::{AllocError, Global};
 use std::collections::BTreeMap;
@@ -132,6 +134,79 @@ impl<C: Cell> Shelf<C> {
             }
         }
     }
+
+    /// Appends for each row, joined to the given one, the event that it comes or goes, one step each. An error is want of memory.
+    pub(crate) fn join<L: Ledger>(
+        &self,
+        alloc: Global,
+        row: &Row<C>,
+        way: Way,
+        out: &mut Events<C>,
+        steps: &mut Steps<L>,
+    ) -> Result<(), AllocError>
+        ensures out { OnOk result (out.new ≡ out.old ++ map (signed way.comes) (map (paired way.front row.now) (keys_of self.now))) }
+        ensures held { OnOk result (IsShelf (slice_cmp C.cmp) self.now) }
+        ensures cost { OnOk result (steps.new ≡ steps.old + length (keys_of self.now)) }
+    {
+        match &self.inner {
+            Inner::One(own, _) => {
+                push_pair(alloc, row, own, way, out)?;
+                steps.tick();
+                return Ok(());
+            }
+            Inner::Many(all) => {
+                push_pairs(alloc, row, all, way, out, steps)?;
+                return Ok(());
+            }
+        }
+    }
+}
+
+/// How a row is joined to another one, and whether the joined row comes.
+#[derive(Clone, Copy, Debug)]
+pub(crate) struct Way {
+    /// Whether it stands before the other one; else behind it.
+    pub front: bool,
+    /// Whether the joined row comes; else it goes.
+    pub comes: bool,
+}
+
+/// Appends the event that the row, joined to the other one, comes or goes.
+fn push_pair<C: Cell>(
+    alloc: Global,
+    row: &Row<C>,
+    other: &Row<C>,
+    way: Way,
+    out: &mut Events<C>,
+) -> Result<(), AllocError>
+    ensures { OnOk result (out.new ≡ out.old ++ signed way.comes (paired way.front row.now other.now) ∷ []) }
+{
+    let joined = if way.front {
+        join_rows(alloc, row, other)?
+    } else {
+        join_rows(alloc, other, row)?
+    };
+    out.push(Event::new(joined, way.comes))?;
+    Ok(())
+}
+
+/// The same for each of the rows, one step each.
+fn push_pairs<C: Cell, L: Ledger>(
+    alloc: Global,
+    row: &Row<C>,
+    all: &BTreeMap<Row<C>, u64>,
+    way: Way,
+    out: &mut Events<C>,
+    steps: &mut Steps<L>,
+) -> Result<(), AllocError>
+    ensures out { OnOk result (out.new ≡ out.old ++ map (signed way.comes) (map (paired way.front row.now) (keys_of all.now.entries))) }
+    ensures cost { OnOk result (steps.new ≡ steps.old + length (keys_of all.now.entries)) }
+{
+    for (other, _many) in all {
+        push_pair(alloc, row, other, way, out)?;
+        steps.tick();
+    }
+    Ok(())
 }
 
 /// Copies of the rows, one step for each.

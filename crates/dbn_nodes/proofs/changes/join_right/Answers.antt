@@ -1,0 +1,17 @@
+use Rattle.std.proofs.Common.{rules, ◌≡◌, ◌++◌, ◌∙◌, refl, ap, map}
+use Rattle.std.specs.Cmp.Lexicographic.{slice_cmp}
+use Rattle.dbn_value.specs.Picked.{picked}
+use Rattle.dbn_nodes.specs.Changes.{row_in, comes, signed}
+use Rattle.dbn_nodes.specs.Tables.{AreRowsOf}
+use Rattle.dbn_nodes.specs.Stands.{seconds}
+use Rattle.dbn_nodes.proofs.NodeLaws.{join_right_leads, join_right_stands}
+use Rattle.dbn_nodes.proofs.changes.join_right.Goals as goal
+
+pub returns-clause-stands : goal.returns-clause-stands
+returns-clause-stands g c =
+    λ l r. join_right_stands g.met.C.Ord.total g.met.C.Cell.exact l r c.args.on.now c.args.kept.now (record { lefts = c.args.kept.now.lefts; rights = c.mark.new.table; supports = c.args.kept.now.supports }) c.args.event.now c.in_ok-key.key (rw (c.as_slice.ensures, c.row.ensures) at c.in_ok-key.ensures) c.in_ok-mark.ensures.counts refl
+
+pub returns-clause-leads : goal.returns-clause-leads
+returns-clause-leads g c =
+    λ l r. let found = rw (c.in_ok-key.ensures, c.as_slice.ensures, c.row.ensures, c.row-2.ensures, c.comes.ensures) at c.in_ok-join.ensures.out in
+    join_right_leads g.met.C.Ord.total g.met.C.Cell.exact l r c.args.on.now c.args.kept.now c.args.event.now found.0 c.args.out.now c.join.new.out found.1 found.2

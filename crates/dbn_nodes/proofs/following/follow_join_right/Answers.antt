@@ -1,0 +1,9 @@
+use Rattle.std.proofs.Common.{◌∙◌, refl, ap}
+use Rattle.dbn_value.specs.Picked.{picked}
+use Rattle.dbn_nodes.specs.Stands.{seconds}
+use Rattle.dbn_nodes.proofs.NodeLaws.{join_right_stands}
+use Rattle.dbn_nodes.proofs.following.follow_join_right.Goals as goal
+
+pub returns-clause-stands : goal.returns-clause-stands
+returns-clause-stands g c =
+    λ l r. join_right_stands g.met.C.Ord.total g.met.C.Cell.exact l r c.args.on.now c.args.kept.now (record { lefts = c.args.kept.now.lefts; rights = c.mark.new.table; supports = c.args.kept.now.supports }) c.args.event.now c.in_ok-key.key (rw (c.as_slice.ensures, c.row.ensures) at c.in_ok-key.ensures) c.in_ok-mark.ensures.counts refl
