@@ -1,0 +1,4 @@
+pub mod Causes
+pub mod Checkpoints
+pub mod Choices
+pub mod Rests
