@@ -17,7 +17,7 @@ use Rattle.dbn_net.specs.Naming.{named}
 use Rattle.dbn_net.specs.WellFormed.{Passes, AllPass, written_from}
 use Rattle.dbn_net.specs.Texts.{State, with_entry, taken_up, read_shape, read_one, read_each, and_then}
 use Rattle.dbn_sexp.proofs.PartLaws.{word_name, constant_const, list_list}
-use Rattle.dbn_net.proofs.PhraseLaws.{declaration_is}
+use Rattle.dbn_net.proofs.WrittenFormulaLaws.{declaration_is}
 
 -- a name that is no operator
 abbrev pub IsPlain : Name → Type 0

@@ -5,25 +5,25 @@ use Rattle.dbn_value.specs.declared.value.Value.TheVariants as value
 use Rattle.dbn_value.specs.declared.value.ColType.{ColType}
 use Rattle.dbn_value.specs.declared.term.Var.{Var}
 use Rattle.dbn_sexp.specs.declared.sexp.Sexp.{Sexp}
-use Rattle.dbn_net.specs.declared.written.Phrase.{Phrase}
-use Rattle.dbn_net.specs.declared.written.Group.{Group}
-use Rattle.dbn_net.specs.declared.written.Heap.{Heap}
-use Rattle.dbn_net.specs.declared.written.Parts.{Parts}
-use Rattle.dbn_net.specs.declared.written.Move.TheVariants as move
-use Rattle.dbn_net.specs.declared.written.Rule.{Rule}
-use Rattle.dbn_net.specs.declared.written.Clause.{Clause}
-use Rattle.dbn_net.specs.declared.written.Clause.TheVariants.{Moves, Guards, Asks, Draws, Calls, Puts, Returns}
+use Rattle.dbn_net.specs.declared.written.WrittenFormula.{WrittenFormula}
+use Rattle.dbn_net.specs.declared.written.WrittenAtom.{WrittenAtom}
+use Rattle.dbn_net.specs.declared.written.WrittenPattern.{WrittenPattern}
+use Rattle.dbn_net.specs.declared.written.WrittenArc.{WrittenArc}
+use Rattle.dbn_net.specs.declared.written.WrittenInput.TheVariants as input
+use Rattle.dbn_net.specs.declared.written.WrittenTransition.{WrittenTransition}
+use Rattle.dbn_net.specs.declared.written.WrittenClause.{WrittenClause}
+use Rattle.dbn_net.specs.declared.written.WrittenClause.TheVariants.{Inputs, Guards, Asks, Draws, Calls, Puts, Returns}
 use Rattle.dbn_net.specs.declared.written.Written.{Written}
 use Rattle.dbn_net.specs.declared.written.Written.TheVariants as written
 use Rattle.dbn_net.specs.Maybe.{◌>>=◌, each, some, only_if}
 use Rattle.dbn_sexp.specs.Parts.{constant_in, list_in}
-use Rattle.dbn_net.specs.Forms.{is_word, name_in, variable_in, term_in, type_in, typed_in, typed_variable_in, scope_in, is_connective, int_of, int_in, group_of, group_in, heap_of, heap_in, parts_of, is_guard, body_in, guard_of, clause_of, clause_in, bare_rule, clauses_from, relation_of, key_of, fields_in, side_of, referring_of, foreign_of, always_of, query_of, effect_of, effect_in, action_of, control_of, view_of, transition_of, fact_of, token_of, declared, declaration_in}
-use Rattle.dbn_net.specs.Printing.{no_lines, word, constant, form, term_sexp, type_sexp, typed_sexp, variable_sexp, typed_variable_sexp, scope_sexp, names_sexp, phrase_sexp, group_parts, group_sexp, heap_sexp, heap_parts, rule_parts, sexp_of}
+use Rattle.dbn_net.specs.Forms.{is_word, name_in, variable_in, term_in, type_in, typed_in, typed_variable_in, scope_in, is_connective, int_of, int_in, written_atom_of, written_atom_in, written_pattern_of, written_pattern_in, written_arc_of, is_guard, body_in, guard_of, clause_of, clause_in, bare_transition, clauses_from, relation_of, key_of, fields_in, side_of, referring_of, foreign_of, always_of, query_of, effect_of, effect_in, action_of, control_of, view_of, transition_of, fact_of, token_of, declared, declaration_in}
+use Rattle.dbn_net.specs.Printing.{no_lines, word, constant, form, term_sexp, type_sexp, typed_sexp, variable_sexp, typed_variable_sexp, scope_sexp, names_sexp, formula_sexp, written_atom_parts, written_atom_sexp, written_pattern_sexp, written_arc_parts, written_transition_parts, sexp_of}
 use Rattle.dbn_net.proofs.Maybes.{some_is, first_found, if_found, if_either, mapped_found, some_same}
-use Rattle.dbn_net.proofs.PhraseLaws.{declaration_is}
+use Rattle.dbn_net.proofs.WrittenFormulaLaws.{declaration_is}
 use Rattle.dbn_net.proofs.Found.{word_is, constant_found, name_found, list_printed, each_found, Headed, headed, form_printed}
-use Rattle.dbn_net.proofs.ParsedAgain.{variable_found, term_found, type_found, typed_found, typed_variable_found, scope_found, phrase_found, always_parts, query_parts}
-use Rattle.dbn_net.proofs.RulesFound.{clause_sexp, IsProper, Ranked, clauses_printed}
+use Rattle.dbn_net.proofs.ParsedAgain.{variable_found, term_found, type_found, typed_found, typed_variable_found, scope_found, formula_found, always_parts, query_parts}
+use Rattle.dbn_net.proofs.TransitionsFound.{clause_sexp, IsProper, Ranked, clauses_printed}
 
 abbrev Printed : List Sexp → List Sexp → Type 0
 Printed printed parts = printed ≡ map no_lines parts
@@ -34,20 +34,20 @@ first_two a b x y p q = ap (λ u. u ∷ b ∷ []) p ∙ ap (λ u. no_lines x ∷
 headed_list : (a : Sexp) (as' : List Sexp) (x : Sexp) (xs : List Sexp) → a ≡ no_lines x → as' ≡ map no_lines xs → (a ∷ as') ≡ map no_lines (x ∷ xs)
 headed_list a as' x xs p q = ap (λ u. u ∷ as') p ∙ ap (λ us. no_lines x ∷ us) q
 
--- ---- groups and heaps
+-- ---- atoms and patterns
 
-group_shown : (parts : List Sexp) (g : Group) → group_of parts ≡ Some g → Printed (group_parts g) parts
-group_shown [] g e = absurd cc
-group_shown (r ∷ parts) g e =
+written_atom_shown : (parts : List Sexp) (g : WrittenAtom) → written_atom_of parts ≡ Some g → Printed (written_atom_parts g) parts
+written_atom_shown [] g e = absurd cc
+written_atom_shown (r ∷ parts) g e =
     let (name, is, rest) = first_found (name_in r) (λ n. each term_in parts >>= λ ts. Some (record { name = n; terms = ts })) g e in
     let (terms, are, made) = first_found (each term_in parts) (λ ts. Some (record { name = name; terms = ts })) g rest in
-    ap group_parts (sym (some_is (record { name = name; terms = terms }) g made))
+    ap written_atom_parts (sym (some_is (record { name = name; terms = terms }) g made))
     ∙ headed_list (word name) (map term_sexp terms) r parts (name_found r name is) (each_found term_in term_sexp term_found parts terms are)
 
-group_found : (one : Sexp) (g : Group) → group_in one ≡ Some g → group_sexp g ≡ no_lines one
-group_found one g e =
-    let (parts, is, read) = first_found (list_in one) group_of g e in
-    list_printed one parts (group_parts g) is (group_shown parts g read)
+written_atom_found : (one : Sexp) (g : WrittenAtom) → written_atom_in one ≡ Some g → written_atom_sexp g ≡ no_lines one
+written_atom_found one g e =
+    let (parts, is, read) = first_found (list_in one) written_atom_of g e in
+    list_printed one parts (written_atom_parts g) is (written_atom_shown parts g read)
 
 int_is : (v : Value) (z : ℤ) → int_of v ≡ Some z → value.Int z ≡ v
 int_is (value.Int n) z e = ap value.Int (sym (some_is n z e))
@@ -59,18 +59,18 @@ int_found one z e =
     let (v, is, made) = first_found (constant_in one) int_of z e in
     ap constant (int_is v z made) ∙ constant_found one v is
 
-heap_shown : (parts : List Sexp) (h : Heap) → heap_of parts ≡ Some h → Printed (constant (value.Int h.many) ∷ map term_sexp h.terms) parts
-heap_shown [] h e = absurd cc
-heap_shown (m ∷ parts) h e =
+written_pattern_shown : (parts : List Sexp) (h : WrittenPattern) → written_pattern_of parts ≡ Some h → Printed (constant (value.Int h.many) ∷ map term_sexp h.terms) parts
+written_pattern_shown [] h e = absurd cc
+written_pattern_shown (m ∷ parts) h e =
     let (many, is, rest) = first_found (int_in m) (λ n. each term_in parts >>= λ ts. Some (record { many = n; terms = ts })) h e in
     let (terms, are, made) = first_found (each term_in parts) (λ ts. Some (record { many = many; terms = ts })) h rest in
     ap (λ x. constant (value.Int x.many) ∷ map term_sexp x.terms) (sym (some_is (record { many = many; terms = terms }) h made))
     ∙ headed_list (constant (value.Int many)) (map term_sexp terms) m parts (int_found m many is) (each_found term_in term_sexp term_found parts terms are)
 
-heap_found : (one : Sexp) (h : Heap) → heap_in one ≡ Some h → heap_sexp h ≡ no_lines one
-heap_found one h e =
-    let (parts, is, read) = first_found (list_in one) heap_of h e in
-    list_printed one parts (constant (value.Int h.many) ∷ map term_sexp h.terms) is (heap_shown parts h read)
+written_pattern_found : (one : Sexp) (h : WrittenPattern) → written_pattern_in one ≡ Some h → written_pattern_sexp h ≡ no_lines one
+written_pattern_found one h e =
+    let (parts, is, read) = first_found (list_in one) written_pattern_of h e in
+    list_printed one parts (constant (value.Int h.many) ∷ map term_sexp h.terms) is (written_pattern_shown parts h read)
 
 some_each : {B : Type 0} (f : Sexp → Option B) (p : B → Sexp) → ((one : Sexp) (y : B) → f one ≡ Some y → p y ≡ no_lines one)
     → (parts : List Sexp) (ys : List B) → (each f parts >>= some) ≡ Some ys → Printed (map p ys) parts
@@ -78,17 +78,17 @@ some_each f p found parts ys e =
     let (zs, are, made) = first_found (each f parts) some ys e in
     ap (map p) (sym (some_same zs ys made)) ∙ each_found f p found parts zs are
 
-parts_shown : (parts : List Sexp) (q : Parts) → parts_of parts ≡ Some q → Printed (heap_parts q) parts
-parts_shown [] q e = absurd cc
-parts_shown (p ∷ parts) q e =
-    let (place, is, rest) = first_found (name_in p) (λ n. each heap_in parts >>= some >>= λ hs. Some (record { place = n; heaps = hs })) q e in
-    let (heaps, are, made) = first_found (each heap_in parts >>= some) (λ hs. Some (record { place = place; heaps = hs })) q rest in
-    ap heap_parts (sym (some_is (record { place = place; heaps = heaps }) q made))
-    ∙ headed_list (word place) (map heap_sexp heaps) p parts (name_found p place is) (some_each heap_in heap_sexp heap_found parts heaps are)
+written_arc_shown : (parts : List Sexp) (q : WrittenArc) → written_arc_of parts ≡ Some q → Printed (written_arc_parts q) parts
+written_arc_shown [] q e = absurd cc
+written_arc_shown (p ∷ parts) q e =
+    let (place, is, rest) = first_found (name_in p) (λ n. each written_pattern_in parts >>= some >>= λ hs. Some (record { place = n; patterns = hs })) q e in
+    let (patterns, are, made) = first_found (each written_pattern_in parts >>= some) (λ hs. Some (record { place = place; patterns = hs })) q rest in
+    ap written_arc_parts (sym (some_is (record { place = place; patterns = patterns }) q made))
+    ∙ headed_list (word place) (map written_pattern_sexp patterns) p parts (name_found p place is) (some_each written_pattern_in written_pattern_sexp written_pattern_found parts patterns are)
 
 -- ---- clauses
 
-record ClauseShown (w : List ℕ) (parts : List Sexp) (c : Clause) : Type 0 where
+record ClauseShown (w : List ℕ) (parts : List Sexp) (c : WrittenClause) : Type 0 where
   pub printed : List Sexp
   pub is : clause_sexp c ≡ form w printed
   pub same : Printed printed parts
@@ -104,23 +104,23 @@ proper_draws [] ys e = absurd cc
 proper_draws (x ∷ xs) [] e = absurd cc
 proper_draws (x ∷ xs) (y ∷ ys) e = tt
 
-guard_shown : (w : List ℕ) (parts : List Sexp) (c : Clause) → w ≡ codes "guard" → guard_of parts ≡ Some c → ClauseShown w parts c
+guard_shown : (w : List ℕ) (parts : List Sexp) (c : WrittenClause) → w ≡ codes "guard" → guard_of parts ≡ Some c → ClauseShown w parts c
 guard_shown w [] c k e = absurd cc
 guard_shown w (g ∷ []) c k e =
     let (p, is, rest) = first_found (body_in g) (λ q. only_if (is_guard q) (Guards q)) c e in
     let made = if_found (is_guard p) (Some (Guards p)) c rest in
-    proved p (phrase_found 64 g p is) (some_is (Guards p) c made.1)
+    proved p (formula_found 64 g p is) (some_is (Guards p) c made.1)
   where
-    proved : (p : Phrase) → phrase_sexp p ≡ no_lines g → Guards p ≡ c → ClauseShown w (g ∷ []) c
-    proved p same made = subst (ClauseShown w (g ∷ [])) made (record { printed = phrase_sexp p ∷ []; is = ap (λ v. form v (phrase_sexp p ∷ [])) (sym k); same = ap (λ x. x ∷ []) same; proper = tt })
+    proved : (p : WrittenFormula) → formula_sexp p ≡ no_lines g → Guards p ≡ c → ClauseShown w (g ∷ []) c
+    proved p same made = subst (ClauseShown w (g ∷ [])) made (record { printed = formula_sexp p ∷ []; is = ap (λ v. form v (formula_sexp p ∷ [])) (sym k); same = ap (λ x. x ∷ []) same; proper = tt })
 guard_shown w (g ∷ h ∷ parts) c k e = absurd cc
 
-clause_shown : (w : List ℕ) (parts : List Sexp) (c : Clause) → clause_of w parts ≡ Some c → ClauseShown w parts c
+clause_shown : (w : List ℕ) (parts : List Sexp) (c : WrittenClause) → clause_of w parts ≡ Some c → ClauseShown w parts c
 clause_shown w parts c e =
-    ⊎_elim (λ a. let (p, is, made) = mapped_found (λ q. Moves (move.In q)) (parts_of parts) c a.1 in
-    subst (ClauseShown w parts) made (record { printed = heap_parts p; is = ap (λ v. form v (heap_parts p)) (sym (word_is w (codes "in") a.0)); same = parts_shown parts p is; proper = tt })) (λ a.
-    ⊎_elim (λ b. let (g, is, made) = mapped_found (λ q. Moves (move.Read q)) (group_of parts) c b.1 in
-    subst (ClauseShown w parts) made (record { printed = group_parts g; is = ap (λ v. form v (group_parts g)) (sym (word_is w (codes "read") b.0)); same = group_shown parts g is; proper = tt })) (λ b.
+    ⊎_elim (λ a. let (p, is, made) = mapped_found (λ q. Inputs (input.In q)) (written_arc_of parts) c a.1 in
+    subst (ClauseShown w parts) made (record { printed = written_arc_parts p; is = ap (λ v. form v (written_arc_parts p)) (sym (word_is w (codes "in") a.0)); same = written_arc_shown parts p is; proper = tt })) (λ a.
+    ⊎_elim (λ b. let (g, is, made) = mapped_found (λ q. Inputs (input.Read q)) (written_atom_of parts) c b.1 in
+    subst (ClauseShown w parts) made (record { printed = written_atom_parts g; is = ap (λ v. form v (written_atom_parts g)) (sym (word_is w (codes "read") b.0)); same = written_atom_shown parts g is; proper = tt })) (λ b.
     ⊎_elim (λ d. guard_shown w parts c (word_is w (codes "guard") d.0) d.1) (λ d.
     ⊎_elim (λ n. let (xs, is, made) = mapped_found Asks (each typed_variable_in parts >>= some) c n.1 in
     let (ys, are, kept) = first_found (each typed_variable_in parts) some xs is in
@@ -128,13 +128,13 @@ clause_shown w parts c e =
     ⊎_elim (λ f. let (xs, is, made) = mapped_found Draws (each variable_in parts >>= some) c f.1 in
     let (ys, are, kept) = first_found (each variable_in parts) some xs is in
     subst (ClauseShown w parts) made (record { printed = map variable_sexp xs; is = ap (λ v. form v (map variable_sexp xs)) (sym (word_is w (codes "fresh") f.0)); same = some_each variable_in variable_sexp variable_found parts xs is; proper = proper_draws ys xs kept })) (λ f.
-    ⊎_elim (λ h. let (g, is, made) = mapped_found Calls (group_of parts) c h.1 in
-    subst (ClauseShown w parts) made (record { printed = group_parts g; is = ap (λ v. form v (group_parts g)) (sym (word_is w (codes "do") h.0)); same = group_shown parts g is; proper = tt })) (λ h.
-    ⊎_elim (λ j. let (p, is, made) = mapped_found Puts (parts_of parts) c j.1 in
-    subst (ClauseShown w parts) made (record { printed = heap_parts p; is = ap (λ v. form v (heap_parts p)) (sym (word_is w (codes "out") j.0)); same = parts_shown parts p is; proper = tt })) (λ j.
-    let last = if_found (is_word w (codes "back")) (option_map Returns (parts_of parts)) c j.1 in
-    let (p, is, made) = mapped_found Returns (parts_of parts) c last.1 in
-    subst (ClauseShown w parts) made (record { printed = heap_parts p; is = ap (λ v. form v (heap_parts p)) (sym (word_is w (codes "back") last.0)); same = parts_shown parts p is; proper = tt }))
+    ⊎_elim (λ h. let (g, is, made) = mapped_found Calls (written_atom_of parts) c h.1 in
+    subst (ClauseShown w parts) made (record { printed = written_atom_parts g; is = ap (λ v. form v (written_atom_parts g)) (sym (word_is w (codes "do") h.0)); same = written_atom_shown parts g is; proper = tt })) (λ h.
+    ⊎_elim (λ j. let (p, is, made) = mapped_found Puts (written_arc_of parts) c j.1 in
+    subst (ClauseShown w parts) made (record { printed = written_arc_parts p; is = ap (λ v. form v (written_arc_parts p)) (sym (word_is w (codes "out") j.0)); same = written_arc_shown parts p is; proper = tt })) (λ j.
+    let last = if_found (is_word w (codes "back")) (option_map Returns (written_arc_of parts)) c j.1 in
+    let (p, is, made) = mapped_found Returns (written_arc_of parts) c last.1 in
+    subst (ClauseShown w parts) made (record { printed = written_arc_parts p; is = ap (λ v. form v (written_arc_parts p)) (sym (word_is w (codes "back") last.0)); same = written_arc_shown parts p is; proper = tt }))
     (if_either (is_word w (codes "out")) _ _ c h.1))
     (if_either (is_word w (codes "do")) _ _ c f.1))
     (if_either (is_word w (codes "fresh")) _ _ c n.1))
@@ -143,23 +143,23 @@ clause_shown w parts c e =
     (if_either (is_word w (codes "read")) _ _ c a.1))
     (if_either (is_word w (codes "in")) _ _ c e)
 
-pub clause_found : (one : Sexp) (c : Clause) → clause_in one ≡ Some c → (clause_sexp c ≡ no_lines one) × IsProper c
+pub clause_found : (one : Sexp) (c : WrittenClause) → clause_in one ≡ Some c → (clause_sexp c ≡ no_lines one) × IsProper c
 clause_found one c e =
     let h : Headed clause_of one c = headed clause_of one c e in
     let s : ClauseShown h.word h.parts c = clause_shown h.word h.parts c h.is_read in
     (s.is ∙ form_printed clause_of one c h s.printed s.same, s.proper)
 
-bare_ranked : (name : List ℕ) → Ranked 0 (bare_rule name)
+bare_ranked : (name : List ℕ) → Ranked 0 (bare_transition name)
 bare_ranked name = record { guard = λ l. refl; asked = λ l. refl; fresh = λ l. refl; call = λ l. refl; outs = λ l. refl; backs = λ l. refl }
 
-pub transition_parts : (parts : List Sexp) (w : Written) → transition_of parts ≡ Some w → (r : Rule) × (w ≡ written.Transition r) × Printed (rule_parts r) parts
+pub transition_parts : (parts : List Sexp) (w : Written) → transition_of parts ≡ Some w → (r : WrittenTransition) × (w ≡ written.Transition r) × Printed (written_transition_parts r) parts
 transition_parts [] w e = absurd cc
 transition_parts (t ∷ parts) w e =
-    let (name, is, rest) = first_found (name_in t) (λ n. clauses_from (0, bare_rule n) parts >>= λ r. Some (written.Transition r)) w e in
-    let (r, was, made) = first_found (clauses_from (0, bare_rule name) parts) (λ x. Some (written.Transition x)) w rest in (
+    let (name, is, rest) = first_found (name_in t) (λ n. clauses_from (0, bare_transition n) parts >>= λ r. Some (written.Transition r)) w e in
+    let (r, was, made) = first_found (clauses_from (0, bare_transition name) parts) (λ x. Some (written.Transition x)) w rest in (
       r,
       sym (some_is (written.Transition r) w made),
-      clauses_printed clause_found 0 (bare_rule name) parts r (bare_ranked name) was ∙ ap (λ x. x ∷ map no_lines parts) (name_found t name is),
+      clauses_printed clause_found 0 (bare_transition name) parts r (bare_ranked name) was ∙ ap (λ x. x ∷ map no_lines parts) (name_found t name is),
     )
 
 -- ---- the other shapes
@@ -253,12 +253,12 @@ token_shows w (p ∷ m ∷ parts) x k e =
     (headed_list (word place) (constant (value.Int many) ∷ map constant row) p (m ∷ parts) (name_found p place is)
     (headed_list (constant (value.Int many)) (map constant row) m parts (int_found m many was) (each_found constant_in constant constant_found parts row are)))
 
-effect_found : (kind : List ℕ) (one : Sexp) (gs : List Group) → effect_in kind one ≡ Some gs → form kind (map group_sexp gs) ≡ no_lines one
+effect_found : (kind : List ℕ) (one : Sexp) (gs : List WrittenAtom) → effect_in kind one ≡ Some gs → form kind (map written_atom_sexp gs) ≡ no_lines one
 effect_found kind one gs e =
     let h : Headed (effect_of kind) one gs = headed (effect_of kind) one gs e in
-    let (is, read) = if_found (is_word h.word kind) (each group_in h.parts) gs h.is_read in
-    ap (λ v. form v (map group_sexp gs)) (sym (word_is h.word kind is))
-    ∙ form_printed (effect_of kind) one gs h (map group_sexp gs) (each_found group_in group_sexp group_found h.parts gs read)
+    let (is, read) = if_found (is_word h.word kind) (each written_atom_in h.parts) gs h.is_read in
+    ap (λ v. form v (map written_atom_sexp gs)) (sym (word_is h.word kind is))
+    ∙ form_printed (effect_of kind) one gs h (map written_atom_sexp gs) (each_found written_atom_in written_atom_sexp written_atom_found h.parts gs read)
 
 action_shows : (w : List ℕ) (parts : List Sexp) (x : Written) → is_word w (codes "action") ≡ true → action_of parts ≡ Some x → Shows w parts x
 action_shows w [] x k e = absurd cc
@@ -270,8 +270,8 @@ action_shows w (a ∷ b ∷ c ∷ d ∷ []) x k e =
     let (params, are, e2) = first_found (scope_in b) _ x e1 in
     let (deletes, go, e3) = first_found (effect_in (codes "delete") c) _ x e2 in
     let (adds, come, made) = first_found (effect_in (codes "add") d) (λ es. Some (written.Action name params deletes es)) x e3 in
-    let gone : Sexp = form (codes "delete") (map group_sexp deletes) in
-    let new : Sexp = form (codes "add") (map group_sexp adds) in
+    let gone : Sexp = form (codes "delete") (map written_atom_sexp deletes) in
+    let new : Sexp = form (codes "add") (map written_atom_sexp adds) in
     by_word w (codes "action") (a ∷ b ∷ c ∷ d ∷ []) (written.Action name params deletes adds) x (word name ∷ scope_sexp params ∷ gone ∷ new ∷ []) k refl (some_is (written.Action name params deletes adds) x made)
     (headed_list (word name) (scope_sexp params ∷ gone ∷ new ∷ []) a (b ∷ c ∷ d ∷ []) (name_found a name is)
     (headed_list (scope_sexp params) (gone ∷ new ∷ []) b (c ∷ d ∷ []) (scope_found b params are)
@@ -281,17 +281,17 @@ action_shows w (a ∷ b ∷ c ∷ d ∷ f ∷ parts) x k e = absurd cc
 always_shows : (w : List ℕ) (parts : List Sexp) (x : Written) → is_word w (codes "always") ≡ true → always_of parts ≡ Some x → Shows w parts x
 always_shows w parts x k e =
     let (name, body, is, same) = always_parts parts x e in
-    by_word w (codes "always") parts (written.Always name body) x (word name ∷ phrase_sexp body ∷ []) k refl (sym is) same
+    by_word w (codes "always") parts (written.Always name body) x (word name ∷ formula_sexp body ∷ []) k refl (sym is) same
 
 query_shows : (w : List ℕ) (parts : List Sexp) (x : Written) → is_word w (codes "query") ≡ true → query_of parts ≡ Some x → Shows w parts x
 query_shows w parts x k e =
     let (name, vars, body, is, same) = query_parts parts x e in
-    by_word w (codes "query") parts (written.Query name vars body) x (word name ∷ scope_sexp vars ∷ phrase_sexp body ∷ []) k refl (sym is) same
+    by_word w (codes "query") parts (written.Query name vars body) x (word name ∷ scope_sexp vars ∷ formula_sexp body ∷ []) k refl (sym is) same
 
 transition_shows : (w : List ℕ) (parts : List Sexp) (x : Written) → is_word w (codes "transition") ≡ true → transition_of parts ≡ Some x → Shows w parts x
 transition_shows w parts x k e =
     let (r, is, same) = transition_parts parts x e in
-    by_word w (codes "transition") parts (written.Transition r) x (rule_parts r) k refl (sym is) same
+    by_word w (codes "transition") parts (written.Transition r) x (written_transition_parts r) k refl (sym is) same
 
 fact_parts : (parts : List Sexp) (x : Written) → fact_of parts ≡ Some x
     → (rel : List ℕ) × (row : List Value) × (x ≡ written.Fact rel row) × ((word rel ∷ map constant row) ≡ map no_lines parts)

@@ -7,15 +7,15 @@ use Rattle.dbn_value.specs.declared.value.Value.{Value}
 use Rattle.dbn_sexp.specs.declared.sexp.Sexp.{Sexp}
 use Rattle.dbn_sexp.specs.Printing.{on_line}
 use Rattle.dbn_sexp.proofs.TreeLaws.{line_name, line_const, line_list}
-use Rattle.dbn_net.specs.declared.written.Phrase.{Phrase}
-use Rattle.dbn_net.specs.declared.written.Phrase.TheVariants as phrase
+use Rattle.dbn_net.specs.declared.written.WrittenFormula.{WrittenFormula}
+use Rattle.dbn_net.specs.declared.written.WrittenFormula.TheVariants as written_formula
 use Rattle.dbn_net.specs.Maybe.{◌>>=◌, each, only_if}
 use Rattle.dbn_sexp.specs.Parts.{word_in, constant_in, list_in}
-use Rattle.dbn_net.specs.Forms.{Name, is_word, with_word, name_in, one_of, two_of, phrase_of, phrase_in}
-use Rattle.dbn_net.specs.Printing.{on_no_line, no_lines, word, constant, list, form, phrase_sexp}
+use Rattle.dbn_net.specs.Forms.{Name, is_word, with_word, name_in, one_of, two_of, formula_of, formula_in}
+use Rattle.dbn_net.specs.Printing.{on_no_line, no_lines, word, constant, list, form, formula_sexp}
 use Rattle.dbn_net.proofs.Maybes.{some_is, first_found, if_found, mapped_found}
 use Rattle.dbn_sexp.proofs.PartLaws.{word_found, constant_is, list_found}
-use Rattle.dbn_net.proofs.PhraseLaws.{phrase_deeper, sexp_and, sexp_not}
+use Rattle.dbn_net.proofs.WrittenFormulaLaws.{formula_deeper, sexp_and, sexp_not}
 
 pub word_is : (w k : Name) → is_word w k ≡ true → w ≡ k
 word_is w k e = (bytes_eq-Decides w k).0 e
@@ -73,48 +73,48 @@ form_printed read one x h printed same =
 
 -- ---- formulas
 
-pub record Shown (w : Name) (parts : List Sexp) (p : Phrase) : Type 0 where
+pub record Shown (w : Name) (parts : List Sexp) (p : WrittenFormula) : Type 0 where
   pub printed : List Sexp
-  pub is : phrase_sexp p ≡ form w printed
+  pub is : formula_sexp p ≡ form w printed
   pub same : printed ≡ map no_lines parts
 
-pub from_parts : (depth : ℕ) → ((w : Name) (parts : List Sexp) (p : Phrase) → phrase_of (phrase_in depth) w parts ≡ Some p → Shown w parts p)
-    → (one : Sexp) (p : Phrase) → phrase_in (suc depth) one ≡ Some p → phrase_sexp p ≡ no_lines one
+pub from_parts : (depth : ℕ) → ((w : Name) (parts : List Sexp) (p : WrittenFormula) → formula_of (formula_in depth) w parts ≡ Some p → Shown w parts p)
+    → (one : Sexp) (p : WrittenFormula) → formula_in (suc depth) one ≡ Some p → formula_sexp p ≡ no_lines one
 from_parts depth shown one p e =
-    let h : Headed (phrase_of (phrase_in depth)) one p = headed (phrase_of (phrase_in depth)) one p (sym (phrase_deeper depth one) ∙ e) in
+    let h : Headed (formula_of (formula_in depth)) one p = headed (formula_of (formula_in depth)) one p (sym (formula_deeper depth one) ∙ e) in
     let s : Shown h.word h.parts p = shown h.word h.parts p h.is_read in
-    s.is ∙ form_printed (phrase_of (phrase_in depth)) one p h s.printed s.same
+    s.is ∙ form_printed (formula_of (formula_in depth)) one p h s.printed s.same
 
-module _ (read : Sexp → Option Phrase) (found : (one : Sexp) (p : Phrase) → read one ≡ Some p → phrase_sexp p ≡ no_lines one) where
-  pub two_found : (parts : List Sexp) (q : Phrase × Phrase) → two_of read parts ≡ Some q → (phrase_sexp q.0 ∷ phrase_sexp q.1 ∷ []) ≡ map no_lines parts
+module _ (read : Sexp → Option WrittenFormula) (found : (one : Sexp) (p : WrittenFormula) → read one ≡ Some p → formula_sexp p ≡ no_lines one) where
+  pub two_found : (parts : List Sexp) (q : WrittenFormula × WrittenFormula) → two_of read parts ≡ Some q → (formula_sexp q.0 ∷ formula_sexp q.1 ∷ []) ≡ map no_lines parts
   two_found [] q e = absurd cc
   two_found (a ∷ []) q e = absurd cc
   two_found (a ∷ b ∷ []) q e =
       let (l, left, rest) = first_found (read a) (λ x. read b >>= λ y. Some (x, y)) q e in
       let (r, right, made) = first_found (read b) (λ y. Some (l, y)) q rest in
-      ap (λ z. phrase_sexp z.0 ∷ phrase_sexp z.1 ∷ []) (sym (some_is (l, r) q made))
-      ∙ ap (λ y. y ∷ phrase_sexp r ∷ []) (found a l left) ∙ ap (λ y. no_lines a ∷ y ∷ []) (found b r right)
+      ap (λ z. formula_sexp z.0 ∷ formula_sexp z.1 ∷ []) (sym (some_is (l, r) q made))
+      ∙ ap (λ y. y ∷ formula_sexp r ∷ []) (found a l left) ∙ ap (λ y. no_lines a ∷ y ∷ []) (found b r right)
   two_found (a ∷ b ∷ c ∷ parts) q e = absurd cc
 
-  one_found : (parts : List Sexp) (p : Phrase) → one_of read parts ≡ Some p → (phrase_sexp p ∷ []) ≡ map no_lines parts
+  one_found : (parts : List Sexp) (p : WrittenFormula) → one_of read parts ≡ Some p → (formula_sexp p ∷ []) ≡ map no_lines parts
   one_found [] p e = absurd cc
   one_found (a ∷ []) p e = ap (λ y. y ∷ []) (found a p e)
   one_found (a ∷ b ∷ parts) p e = absurd cc
 
-  pub and_found : (w : Name) (parts : List Sexp) (p : Phrase) → is_word w (codes "and") ≡ true → option_map phrase.And (each read parts) ≡ Some p → Shown w parts p
+  pub and_found : (w : Name) (parts : List Sexp) (p : WrittenFormula) → is_word w (codes "and") ≡ true → option_map written_formula.And (each read parts) ≡ Some p → Shown w parts p
   and_found w parts p first e =
-      let (ps, are, made) = mapped_found phrase.And (each read parts) p e in
+      let (ps, are, made) = mapped_found written_formula.And (each read parts) p e in
       record {
-        printed = map phrase_sexp ps;
-        is = ap phrase_sexp (sym made) ∙ sexp_and ps ∙ ap (λ k. form k (map phrase_sexp ps)) (sym (word_is w (codes "and") first));
-        same = each_found read phrase_sexp found parts ps are;
+        printed = map formula_sexp ps;
+        is = ap formula_sexp (sym made) ∙ sexp_and ps ∙ ap (λ k. form k (map formula_sexp ps)) (sym (word_is w (codes "and") first));
+        same = each_found read formula_sexp found parts ps are;
       }
 
-  pub not_found : (w : Name) (parts : List Sexp) (p : Phrase) → is_word w (codes "not") ≡ true → option_map phrase.Not (one_of read parts) ≡ Some p → Shown w parts p
+  pub not_found : (w : Name) (parts : List Sexp) (p : WrittenFormula) → is_word w (codes "not") ≡ true → option_map written_formula.Not (one_of read parts) ≡ Some p → Shown w parts p
   not_found w parts p first e =
-      let (q, is, made) = mapped_found phrase.Not (one_of read parts) p e in
+      let (q, is, made) = mapped_found written_formula.Not (one_of read parts) p e in
       record {
-        printed = phrase_sexp q ∷ [];
-        is = ap phrase_sexp (sym made) ∙ sexp_not q ∙ ap (λ k. form k (phrase_sexp q ∷ [])) (sym (word_is w (codes "not") first));
+        printed = formula_sexp q ∷ [];
+        is = ap formula_sexp (sym made) ∙ sexp_not q ∙ ap (λ k. form k (formula_sexp q ∷ [])) (sym (word_is w (codes "not") first));
         same = one_found parts q is;
       }

@@ -1,14 +1,14 @@
 pub mod Maybes
-pub mod PhraseFolds
-pub mod PhraseLaws
+pub mod WrittenFormulaFolds
+pub mod WrittenFormulaLaws
 pub mod LinesLaws
 pub mod Found
 pub mod ParsedAgain
-pub mod RulesFound
+pub mod TransitionsFound
 pub mod DeclaredAgain
 pub mod NamedLaws
 pub mod NamedFormulas
-pub mod NamedRules
+pub mod NamedTransitions
 pub mod JudgedLaws
 pub mod PassesLaws
 pub mod AtomLaws
@@ -32,7 +32,7 @@ pub mod RoundNext
 pub mod RoundText
 pub mod NameTables
 pub mod NextLaws
-pub mod RoundRules
+pub mod RoundTransitions
 pub mod RoundGood
 pub mod PositionLaws
 pub mod AddLaws

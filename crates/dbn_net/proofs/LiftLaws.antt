@@ -22,8 +22,8 @@ use Rattle.dbn_formula.proofs.WrittenTests.{first_from}
 use Rattle.dbn_formula.proofs.VariableLaws.{bound_in, in_of_is}
 use Rattle.dbn_instance.specs.declared.fact.Action.{Action}
 use Rattle.dbn_instance.specs.declared.fact.FactPattern.{FactPattern}
-use Rattle.dbn_net.specs.declared.written.Phrase.{Phrase}
-use Rattle.dbn_net.specs.declared.written.Group.{Group}
+use Rattle.dbn_net.specs.declared.written.WrittenFormula.{WrittenFormula}
+use Rattle.dbn_net.specs.declared.written.WrittenAtom.{WrittenAtom}
 use Rattle.dbn_net.specs.declared.rules.Arc.{Arc}
 use Rattle.dbn_net.specs.declared.rules.Pattern.{Pattern}
 use Rattle.dbn_net.specs.declared.rules.Read.{Read}
@@ -37,14 +37,14 @@ use Rattle.dbn_net.specs.declared.decl.Entry.TheVariants.{Part}
 use Rattle.dbn_net.specs.Maybe.{each}
 use Rattle.dbn_net.specs.Forms.{Name}
 use Rattle.dbn_net.specs.Tables.{Question, relation_in, query_in, action_in, place_in, transition_in, relations, queries, actions, places, transitions, relation_names, query_names, columns, types_of, relation_shape, relation_shapes, query_shapes, action_shapes, place_shape, place_shapes, scope_of, is_control, is_view, has_place}
-use Rattle.dbn_net.specs.Naming.{number_of, name_at, resolved_phrase, named_formula, transition, rule, fact_pattern, pattern_group, resolved_action, named}
-use Rattle.dbn_net.specs.Judging.{Begun, all_patterns, all_facts, all_terms, as_many, terms_bound, arcs_counted, rule_once}
+use Rattle.dbn_net.specs.Naming.{number_of, name_at, resolved_formula, named_formula, transition, written_transition, fact_pattern, written_fact, resolved_action, named}
+use Rattle.dbn_net.specs.Judging.{Begun, all_patterns, all_facts, all_terms, as_many, terms_bound, arcs_counted, transition_once}
 use Rattle.dbn_net.specs.WellFormed.{Passes, AllPass, WellFormed, terms_in, guard_in, transition_typed, arcs_known, transition_known, transition_scoped, facts_known, action_fits, Fits}
 use Rattle.dbn_net.proofs.Maybes.{some_is, first_found, mapped_found}
 use Rattle.dbn_net.proofs.NamedLaws.{number_within}
 use Rattle.dbn_net.proofs.JudgedLaws.{Judged, judged_is}
 use Rattle.dbn_net.proofs.Listed.{each_all, given_all, in_filter_map, index_kept, get_kept}
-use Rattle.dbn_net.proofs.MadeLaws.{Made, was_made, numbers_known, below_mapped, phrase_known, guard_arity}
+use Rattle.dbn_net.proofs.MadeLaws.{Made, was_made, numbers_known, below_mapped, written_formula_known, guard_arity}
 use Rattle.dbn_net.proofs.Scoped.{scoped, once_distinct}
 
 -- ---- a declaration of the net passed behind those before it
@@ -317,11 +317,11 @@ transition_in_is (Query name vars body) t is = absurd cc
 transition_in_is (Act a) t is = absurd cc
 transition_in_is (Site p) t is = absurd cc
 
-made_there : (front : List Decl) (t : Transition) → Passes front (Trans t) → Made front (rule front t) t
+made_there : (front : List Decl) (t : Transition) → Passes front (Trans t) → Made front (written_transition front t) t
 made_there front t p =
     let j = judged_there front (Trans t) p in
-    let (u, is, made) = mapped_found (λ x. Part (Trans x)) (transition front (rule front t)) (Part (Trans t)) j.is in
-    was_made front (rule front t) t (is ∙ ap Some (trans_is u t made))
+    let (u, is, made) = mapped_found (λ x. Part (Trans x)) (transition front (written_transition front t)) (Part (Trans t)) j.is in
+    was_made front (written_transition front t) t (is ∙ ap Some (trans_is u t made))
 
 guard_joined : (scope : TypedVars) (guard : Option Formula) → option_map_or (arity_fits []) guard true ≡ true → option_map_or (λ g. types_fit [] g scope) guard true ≡ true
     → option_map_or (λ g. all_bound g scope) guard true ≡ true → guard_in scope guard ≡ true
@@ -337,20 +337,20 @@ typed_there front t p =
 guard_there : (front : List Decl) (t : Transition) → Passes front (Trans t) → guard_in t.bound t.guard ≡ true
 guard_there front t p =
     let passed = (judged_there front (Trans t) p).passed in
-    guard_joined t.bound t.guard (given_all (resolved_phrase []) (arity_fits []) (guard_arity []) (rule front t).guard t.guard (made_there front t p).guard)
+    guard_joined t.bound t.guard (given_all (resolved_formula []) (arity_fits []) (guard_arity []) (written_transition front t).guard t.guard (made_there front t p).guard)
     (and_parts _ _ passed.typed).1 (and_parts _ _ passed.bound).1
 
 scoped_there : (front : List Decl) (t : Transition) → Passes front (Trans t) → transition_scoped t ≡ true
 scoped_there front t p =
     let j = judged_there front (Trans t) p in
-    scoped front (rule front t) t (made_there front t p) (and_parts _ (rule_once (rule front t)) j.once).1
+    scoped front (written_transition front t) t (made_there front t p) (and_parts _ (transition_once (written_transition front t)) j.once).1
 
 -- ---- actions
 
 act_is : (a b : Action) → Part (Act a) ≡ Part (Act b) → a ≡ b
 act_is a b e = cc
 
-fact_known : (net : List Decl) (g : Group) (p : FactPattern) → fact_pattern (relation_names net) g ≡ Some p → nat_lt p.rel (length (relations net)) ≡ true
+fact_known : (net : List Decl) (g : WrittenAtom) (p : FactPattern) → fact_pattern (relation_names net) g ≡ Some p → nat_lt p.rel (length (relations net)) ≡ true
 fact_known net g p e =
     let (n, is, made) = mapped_found (λ k. record { rel = k; terms = g.terms }) (number_of (relation_names net) g.name) p e in
     ap (λ (q : FactPattern). nat_lt q.rel (length (relations net))) (sym made) ∙ below_mapped (λ r. r.name) (relations net) n (number_within (relation_names net) g.name n is)
@@ -358,13 +358,13 @@ fact_known net g p e =
 adds_known : (front : List Decl) (a : Action) → Passes front (Act a) → facts_known front a.adds ≡ true
 adds_known front a p =
     let j = judged_there front (Act a) p in
-    let (d, is, made) = mapped_found Part (resolved_action front a.name a.params (map (pattern_group front) a.deletes) (map (pattern_group front) a.adds)) (Part (Act a)) j.is in
-    let (gone, b, rest) = first_found (each (fact_pattern (relation_names front)) (map (pattern_group front) a.deletes)) _ d is in
-    let (new, c, last) = first_found (each (fact_pattern (relation_names front)) (map (pattern_group front) a.adds)) _ d rest in
+    let (d, is, made) = mapped_found Part (resolved_action front a.name a.params (map (written_fact front) a.deletes) (map (written_fact front) a.adds)) (Part (Act a)) j.is in
+    let (gone, b, rest) = first_found (each (fact_pattern (relation_names front)) (map (written_fact front) a.deletes)) _ d is in
+    let (new, c, last) = first_found (each (fact_pattern (relation_names front)) (map (written_fact front) a.adds)) _ d rest in
     let whole : Action = record { name = a.name; params = a.params; deletes = gone; adds = new } in
     let same : new ≡ a.adds = ap (λ (b : Action). b.adds) (act_is whole a (ap Part (some_is (Act whole) d last) ∙ made)) in
     subst (λ l. facts_known front l ≡ true) same
-    (each_all (fact_pattern (relation_names front)) (λ q. nat_lt q.rel (length (relations front))) (fact_known front) (map (pattern_group front) a.adds) new c)
+    (each_all (fact_pattern (relation_names front)) (λ q. nat_lt q.rel (length (relations front))) (fact_known front) (map (written_fact front) a.adds) new c)
 
 adds_typed : (front : List Decl) (a : Action) → Passes front (Act a) → all_facts (terms_in a.params) (relation_shapes front) a.adds ≡ true
 adds_typed front a p =
@@ -412,7 +412,7 @@ fits_at net n t ok is =
     let found = in_filter_map transition_in t net (in_at (transitions net) n t is) in
     let declared : In (Trans t) net = subst (λ d. In d net) (transition_in_is found.0 t found.2) found.1 in
     let s = stood [] net (Trans t) ok declared in
-    let known = numbers_known s.front (rule s.front t) t (made_there s.front t s.passes) in
+    let known = numbers_known s.front (written_transition s.front t) t (made_there s.front t s.passes) in
     let counted = (judged_there s.front (Trans t) s.passes).passed.counted in
     let ins_outs = and_parts (arcs_counted t.ins && arcs_counted t.outs) (arcs_counted t.backs) counted in
     let ins = and_parts (arcs_counted t.ins) (arcs_counted t.outs) ins_outs.0 in
@@ -431,10 +431,10 @@ fits_at net n t ok is =
 
 -- ---- queries and sentences are accepted over all relations of the net
 
-formula_known : (front : List Decl) (p : Phrase) (f : Formula) → resolved_phrase (relation_names front) p ≡ Some f → OfFirst (length (relation_shapes front)) f
+formula_known : (front : List Decl) (p : WrittenFormula) (f : Formula) → resolved_formula (relation_names front) p ≡ Some f → OfFirst (length (relation_shapes front)) f
 formula_known front p f is =
     subst (λ n. OfFirst n f) (length-map (relations front) (λ r. r.name) ∙ sym (length-map (relations front) relation_shape))
-    (first_from f (length (relation_names front)) (phrase_known (relation_names front) p f is))
+    (first_from f (length (relation_names front)) (written_formula_known (relation_names front) p f is))
 
 fault_kept : (xs ys : List Decl) (f : Formula) (scope : TypedVars) → OfFirst (length (relation_shapes xs)) f → arity_fits (relation_shapes xs) f ≡ true → types_fit (relation_shapes xs) f scope ≡ true
     → all_bound f scope ≡ true → type_fault (relation_shapes (xs ++ ys)) f scope ≡ None
@@ -449,7 +449,7 @@ query_is a b vars others f g e = cc
 query_there : (front ys : List Decl) (name : Name) (vars : TypedVars) (body : Formula) → Passes front (Query name vars body) → AcceptsQuery (relation_shapes (front ++ ys)) vars body
 query_there front ys name vars body p =
     let j = judged_there front (Query name vars body) p in
-    let (f, is, made) = mapped_found (λ g. Part (Query name vars g)) (resolved_phrase (relation_names front) (named_formula (relation_names front) body)) (Part (Query name vars body)) j.is in
+    let (f, is, made) = mapped_found (λ g. Part (Query name vars g)) (resolved_formula (relation_names front) (named_formula (relation_names front) body)) (Part (Query name vars body)) j.is in
     let known = subst (OfFirst (length (relation_shapes front))) (query_is name name vars vars f body made) (formula_known front (named_formula (relation_names front) body) f is) in
     let bound = and_parts (all_bound body vars) (list_all (λ x. is_in x.0 (occurrences body)) vars) j.passed.bound in
     let once_all = and_parts _ _ (and_parts _ _ j.once).0 in
@@ -468,7 +468,7 @@ always_is a b f g e = cc
 always_there : (front ys : List Decl) (name : Name) (body : Formula) → Passes front (Always name body) → AcceptsSentence (relation_shapes (front ++ ys)) body
 always_there front ys name body p =
     let j = judged_there front (Always name body) p in
-    let (f, is, made) = mapped_found (λ g. Part (Always name g)) (resolved_phrase (relation_names front) (named_formula (relation_names front) body)) (Part (Always name body)) j.is in
+    let (f, is, made) = mapped_found (λ g. Part (Always name g)) (resolved_formula (relation_names front) (named_formula (relation_names front) body)) (Part (Always name body)) j.is in
     let known = subst (OfFirst (length (relation_shapes front))) (always_is name name f body made) (formula_known front (named_formula (relation_names front) body) f is) in
     record { typed = fault_kept front ys body [] known j.passed.arity j.passed.typed j.passed.bound; is_safe = j.passed.safe }
 

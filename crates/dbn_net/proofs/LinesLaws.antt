@@ -5,13 +5,13 @@ use Rattle.dbn_value.specs.Text.{is_identifier}
 use Rattle.dbn_value.specs.declared.term.Cmp.{Cmp}
 use Rattle.dbn_sexp.specs.declared.sexp.Sexp.{Sexp}
 use Rattle.dbn_sexp.proofs.LinesLaws.{lined, word_alike, constant_alike, list_alike}
-use Rattle.dbn_net.specs.declared.written.Phrase.{Phrase}
-use Rattle.dbn_net.specs.declared.written.Rule.{Rule}
+use Rattle.dbn_net.specs.declared.written.WrittenFormula.{WrittenFormula}
+use Rattle.dbn_net.specs.declared.written.WrittenTransition.{WrittenTransition}
 use Rattle.dbn_net.specs.declared.written.Written.TheVariants as written
 use Rattle.dbn_net.specs.Maybe.{◌>>=◌, each, some, only_if}
 use Rattle.dbn_sexp.specs.Parts.{word_in, constant_in, list_in}
-use Rattle.dbn_net.specs.Forms.{with_word, name_in, variable, variable_in, term_in, type_of, type_in, typed_of, typed_in, typed_variable_in, scope_in, int_of, int_in, comparison_of, test_of, atom_of, compared_or_atom, one_of, two_of, quantified_of, connected, phrase_of, phrase_in, group_of, group_in, heap_of, heap_in, parts_of, guard_of, clause_of, clause_in, rank, follows, with_clause, bare_rule, clause_step, clauses_from, relation_of, key_of, fields_in, side_of, referring_of, foreign_of, always_of, query_of, effect_of, effect_in, action_of, control_of, view_of, transition_of, fact_of, token_of, declared, declaration_in}
-use Rattle.dbn_net.proofs.PhraseLaws.{declaration_is, phrase_too_deep, phrase_deeper}
+use Rattle.dbn_net.specs.Forms.{with_word, name_in, variable, variable_in, term_in, type_of, type_in, typed_of, typed_in, typed_variable_in, scope_in, int_of, int_in, comparison_of, test_of, atom_of, compared_or_atom, one_of, two_of, quantified_of, connected, formula_of, formula_in, written_atom_of, written_atom_in, written_pattern_of, written_pattern_in, written_arc_of, guard_of, clause_of, clause_in, rank, follows, with_clause, bare_transition, clause_step, clauses_from, relation_of, key_of, fields_in, side_of, referring_of, foreign_of, always_of, query_of, effect_of, effect_in, action_of, control_of, view_of, transition_of, fact_of, token_of, declared, declaration_in}
+use Rattle.dbn_net.proofs.WrittenFormulaLaws.{declaration_is, formula_too_deep, formula_deeper}
 
 abbrev pub Alike : {A : Type 0} → (Sexp → Option A) → ℕ → Type 0
 Alike f n = (one : Sexp) → f (lined n one) ≡ f one
@@ -74,23 +74,23 @@ module _ (n : ℕ) where
   type_alike : Alike type_in n
   type_alike one = ap (λ o. o >>= type_of) (word_alike n one)
 
-  group_lists : ListsAlike group_of n
-  group_lists [] = refl
-  group_lists (r ∷ parts) = rw (word_alike n r, each_alike term_in term_alike parts) refl
+  written_atom_lists : ListsAlike written_atom_of n
+  written_atom_lists [] = refl
+  written_atom_lists (r ∷ parts) = rw (word_alike n r, each_alike term_in term_alike parts) refl
 
-  group_alike : Alike group_in n
-  group_alike one = through_list group_of group_lists one
+  written_atom_alike : Alike written_atom_in n
+  written_atom_alike one = through_list written_atom_of written_atom_lists one
 
-  heap_lists : ListsAlike heap_of n
-  heap_lists [] = refl
-  heap_lists (m ∷ parts) = rw (constant_alike n m, each_alike term_in term_alike parts) refl
+  written_pattern_lists : ListsAlike written_pattern_of n
+  written_pattern_lists [] = refl
+  written_pattern_lists (m ∷ parts) = rw (constant_alike n m, each_alike term_in term_alike parts) refl
 
-  heap_alike : Alike heap_in n
-  heap_alike one = through_list heap_of heap_lists one
+  written_pattern_alike : Alike written_pattern_in n
+  written_pattern_alike one = through_list written_pattern_of written_pattern_lists one
 
-  parts_lists : ListsAlike parts_of n
-  parts_lists [] = refl
-  parts_lists (p ∷ parts) = rw (word_alike n p, each_alike heap_in heap_alike parts) refl
+  written_arc_lists : ListsAlike written_arc_of n
+  written_arc_lists [] = refl
+  written_arc_lists (p ∷ parts) = rw (word_alike n p, each_alike written_pattern_in written_pattern_alike parts) refl
 
   -- ---- formulas
 
@@ -103,7 +103,7 @@ module _ (n : ℕ) where
   atom_lists : (w : List ℕ) → ListsAlike (atom_of w) n
   atom_lists w parts = rw (each_alike term_in term_alike parts) refl
 
-  module _ (read : Sexp → Option Phrase) (alike : Alike read n) where
+  module _ (read : Sexp → Option WrittenFormula) (alike : Alike read n) where
     one_lists : ListsAlike (one_of read) n
     one_lists [] = refl
     one_lists (a ∷ []) = alike a
@@ -128,39 +128,39 @@ module _ (n : ℕ) where
     compared_lists None w parts = atom_lists w parts
     compared_lists (Some c) w parts = test_lists c parts
 
-    phrase_lists : (w : List ℕ) → ListsAlike (phrase_of read w) n
-    phrase_lists w parts = rw (connected_lists w parts, compared_lists (comparison_of w) w parts) refl
+    formula_lists : (w : List ℕ) → ListsAlike (formula_of read w) n
+    formula_lists w parts = rw (connected_lists w parts, compared_lists (comparison_of w) w parts) refl
 
-  pub phrase_alike : (depth : ℕ) → Alike (phrase_in depth) n
-  phrase_alike zero one = phrase_too_deep (lined n one) ∙ sym (phrase_too_deep one)
-  phrase_alike (suc depth) one =
-      phrase_deeper depth (lined n one)
-      ∙ through_list (with_word (phrase_of (phrase_in depth))) (word_first (phrase_of (phrase_in depth)) (phrase_lists (phrase_in depth) (phrase_alike depth))) one
-      ∙ sym (phrase_deeper depth one)
+  pub formula_alike : (depth : ℕ) → Alike (formula_in depth) n
+  formula_alike zero one = formula_too_deep (lined n one) ∙ sym (formula_too_deep one)
+  formula_alike (suc depth) one =
+      formula_deeper depth (lined n one)
+      ∙ through_list (with_word (formula_of (formula_in depth))) (word_first (formula_of (formula_in depth)) (formula_lists (formula_in depth) (formula_alike depth))) one
+      ∙ sym (formula_deeper depth one)
 
   -- ---- clauses
 
   guard_lists : ListsAlike guard_of n
   guard_lists [] = refl
-  guard_lists (g ∷ []) = rw (phrase_alike 64 g) refl
+  guard_lists (g ∷ []) = rw (formula_alike 64 g) refl
   guard_lists (g ∷ h ∷ parts) = refl
 
   variable_alike : Alike variable_in n
   variable_alike one = ap (λ o. o >>= λ name. Some (variable name)) (name_alike one)
 
   clause_lists : (w : List ℕ) → ListsAlike (clause_of w) n
-  clause_lists w parts = rw (parts_lists parts, group_lists parts, guard_lists parts, each_alike typed_variable_in typed_variable_alike parts, each_alike variable_in variable_alike parts) refl
+  clause_lists w parts = rw (written_arc_lists parts, written_atom_lists parts, guard_lists parts, each_alike typed_variable_in typed_variable_alike parts, each_alike variable_in variable_alike parts) refl
 
   clause_alike : Alike clause_in n
   clause_alike one = through_list (with_word clause_of) (word_first clause_of clause_lists) one
 
-  clauses_alike : (state : ℕ × Rule) → ListsAlike (clauses_from state) n
+  clauses_alike : (state : ℕ × WrittenTransition) → ListsAlike (clauses_from state) n
   clauses_alike state [] = refl
   clauses_alike state (one ∷ parts) =
       ap (λ o. (o >>= λ c. if follows state.0 (rank c) then Some (rank c, with_clause state.1 c) else None) >>= λ next. clauses_from next (map (lined n) parts)) (clause_alike one)
       ∙ by (λ next. clauses_alike next parts) (clause_step state one)
     where
-      by : ((next : ℕ × Rule) → clauses_from next (map (lined n) parts) ≡ clauses_from next parts) → (o : Option (ℕ × Rule))
+      by : ((next : ℕ × WrittenTransition) → clauses_from next (map (lined n) parts) ≡ clauses_from next parts) → (o : Option (ℕ × WrittenTransition))
           → (o >>= λ next. clauses_from next (map (lined n) parts)) ≡ (o >>= λ next. clauses_from next parts)
       by later None = refl
       by later (Some next) = later next
@@ -199,18 +199,18 @@ module _ (n : ℕ) where
   always_lists : ListsAlike always_of n
   always_lists [] = refl
   always_lists (c ∷ []) = refl
-  always_lists (c ∷ f ∷ []) = rw (name_alike c, phrase_alike 64 f) refl
+  always_lists (c ∷ f ∷ []) = rw (name_alike c, formula_alike 64 f) refl
   always_lists (c ∷ f ∷ p ∷ parts) = refl
 
   query_lists : ListsAlike query_of n
   query_lists [] = refl
   query_lists (q ∷ []) = refl
   query_lists (q ∷ xs ∷ []) = refl
-  query_lists (q ∷ xs ∷ f ∷ []) = rw (name_alike q, scope_alike xs, phrase_alike 64 f) refl
+  query_lists (q ∷ xs ∷ f ∷ []) = rw (name_alike q, scope_alike xs, formula_alike 64 f) refl
   query_lists (q ∷ xs ∷ f ∷ p ∷ parts) = refl
 
   effect_lists : (kind w : List ℕ) → ListsAlike (effect_of kind w) n
-  effect_lists kind w parts = rw (each_alike group_in group_alike parts) refl
+  effect_lists kind w parts = rw (each_alike written_atom_in written_atom_alike parts) refl
 
   effect_alike : (kind : List ℕ) → Alike (effect_in kind) n
   effect_alike kind one = through_list (with_word (effect_of kind)) (word_first (effect_of kind) (effect_lists kind)) one
@@ -235,12 +235,12 @@ module _ (n : ℕ) where
 
   transition_lists : ListsAlike transition_of n
   transition_lists [] = refl
-  transition_lists (t ∷ parts) = ap (λ o. o >>= λ name. clauses_from (0, bare_rule name) (map (lined n) parts) >>= λ rule. Some (written.Transition rule)) (name_alike t) ∙ by (name_in t)
+  transition_lists (t ∷ parts) = ap (λ o. o >>= λ name. clauses_from (0, bare_transition name) (map (lined n) parts) >>= λ rule. Some (written.Transition rule)) (name_alike t) ∙ by (name_in t)
     where
-      by : (o : Option (List ℕ)) → (o >>= λ name. clauses_from (0, bare_rule name) (map (lined n) parts) >>= λ rule. Some (written.Transition rule))
-          ≡ (o >>= λ name. clauses_from (0, bare_rule name) parts >>= λ rule. Some (written.Transition rule))
+      by : (o : Option (List ℕ)) → (o >>= λ name. clauses_from (0, bare_transition name) (map (lined n) parts) >>= λ rule. Some (written.Transition rule))
+          ≡ (o >>= λ name. clauses_from (0, bare_transition name) parts >>= λ rule. Some (written.Transition rule))
       by None = refl
-      by (Some name) = ap (λ o. o >>= λ rule. Some (written.Transition rule)) (clauses_alike (0, bare_rule name) parts)
+      by (Some name) = ap (λ o. o >>= λ rule. Some (written.Transition rule)) (clauses_alike (0, bare_transition name) parts)
 
   fact_lists : ListsAlike fact_of n
   fact_lists [] = refl

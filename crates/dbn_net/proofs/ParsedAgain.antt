@@ -10,16 +10,16 @@ use Rattle.dbn_value.specs.declared.term.Term.TheVariants as term
 use Rattle.dbn_value.specs.declared.term.Cmp.{Cmp}
 use Rattle.dbn_value.specs.declared.term.Cmp.TheVariants as cmp
 use Rattle.dbn_sexp.specs.declared.sexp.Sexp.{Sexp}
-use Rattle.dbn_net.specs.declared.written.Phrase.{Phrase}
-use Rattle.dbn_net.specs.declared.written.Phrase.TheVariants as phrase
+use Rattle.dbn_net.specs.declared.written.WrittenFormula.{WrittenFormula}
+use Rattle.dbn_net.specs.declared.written.WrittenFormula.TheVariants as written_formula
 use Rattle.dbn_net.specs.declared.written.Written.{Written}
 use Rattle.dbn_net.specs.declared.written.Written.TheVariants as written
 use Rattle.dbn_net.specs.Maybe.{◌>>=◌, each, some}
 use Rattle.dbn_sexp.specs.Parts.{word_in, constant_in, list_in}
-use Rattle.dbn_net.specs.Forms.{is_word, name_in, variable, variable_in, term_in, type_of, type_in, typed_of, typed_in, typed_variable_in, scope_in, some_scope_in, is_connective, comparison_of, test_of, atom_of, compared_or_atom, two_of, quantified_of, connected, phrase_of, phrase_in, body_in, always_of, query_of}
-use Rattle.dbn_net.specs.Printing.{no_lines, word, form, term_sexp, type_word, type_sexp, typed_sexp, scope_sexp, comparison_word, phrase_sexp}
+use Rattle.dbn_net.specs.Forms.{is_word, name_in, variable, variable_in, term_in, type_of, type_in, typed_of, typed_in, typed_variable_in, scope_in, some_scope_in, is_connective, comparison_of, test_of, atom_of, compared_or_atom, two_of, quantified_of, connected, formula_of, formula_in, body_in, always_of, query_of}
+use Rattle.dbn_net.specs.Printing.{no_lines, word, form, term_sexp, type_word, type_sexp, typed_sexp, scope_sexp, comparison_word, formula_sexp}
 use Rattle.dbn_net.proofs.Maybes.{some_is, first_found, if_found, if_either, mapped_found, or_found, some_same}
-use Rattle.dbn_net.proofs.PhraseLaws.{phrase_too_deep, sexp_atom, sexp_test, sexp_or, sexp_implies, sexp_exists, sexp_forall}
+use Rattle.dbn_net.proofs.WrittenFormulaLaws.{formula_too_deep, sexp_atom, sexp_test, sexp_or, sexp_implies, sexp_exists, sexp_forall}
 use Rattle.dbn_net.proofs.Found.{word_is, word_printed, constant_found, name_found, list_printed, each_found, Shown, from_parts, two_found, and_found, not_found}
 
 -- ---- parts
@@ -97,79 +97,79 @@ comparison_found w c e =
     no_some : (c : Cmp) → None ≡ Some c → ⊥
     no_some c n = absurd cc
 
-test_parts : (w : List ℕ) (c : Cmp) (parts : List Sexp) (p : Phrase) → comparison_word c ≡ w → test_of c parts ≡ Some p → Shown w parts p
+test_parts : (w : List ℕ) (c : Cmp) (parts : List Sexp) (p : WrittenFormula) → comparison_word c ≡ w → test_of c parts ≡ Some p → Shown w parts p
 test_parts w c [] p is e = absurd cc
 test_parts w c (a ∷ []) p is e = absurd cc
 test_parts w c (a ∷ b ∷ []) p is e =
-    let (l, left, rest) = first_found (term_in a) (λ x. term_in b >>= λ y. Some (phrase.Test c x y)) p e in
-    let (r, right, made) = first_found (term_in b) (λ y. Some (phrase.Test c l y)) p rest in
+    let (l, left, rest) = first_found (term_in a) (λ x. term_in b >>= λ y. Some (written_formula.Test c x y)) p e in
+    let (r, right, made) = first_found (term_in b) (λ y. Some (written_formula.Test c l y)) p rest in
     record {
       printed = term_sexp l ∷ term_sexp r ∷ [];
-      is = ap phrase_sexp (sym (some_is (phrase.Test c l r) p made)) ∙ sexp_test c l r ∙ ap (λ k. form k (term_sexp l ∷ term_sexp r ∷ [])) is;
+      is = ap formula_sexp (sym (some_is (written_formula.Test c l r) p made)) ∙ sexp_test c l r ∙ ap (λ k. form k (term_sexp l ∷ term_sexp r ∷ [])) is;
       same = ap (λ y. y ∷ term_sexp r ∷ []) (term_found a l left) ∙ ap (λ y. no_lines a ∷ y ∷ []) (term_found b r right);
     }
 test_parts w c (a ∷ b ∷ d ∷ parts) p is e = absurd cc
 
-atom_parts : (w : List ℕ) (parts : List Sexp) (p : Phrase) → atom_of w parts ≡ Some p → Shown w parts p
+atom_parts : (w : List ℕ) (parts : List Sexp) (p : WrittenFormula) → atom_of w parts ≡ Some p → Shown w parts p
 atom_parts w parts p e =
-    let (plain, rest) = if_found (is_identifier w) (option_map (phrase.Atom w) (each term_in parts)) p e in
-    let (terms, are, made) = mapped_found (phrase.Atom w) (each term_in parts) p rest in
+    let (plain, rest) = if_found (is_identifier w) (option_map (written_formula.Atom w) (each term_in parts)) p e in
+    let (terms, are, made) = mapped_found (written_formula.Atom w) (each term_in parts) p rest in
     record {
       printed = map term_sexp terms;
-      is = ap phrase_sexp (sym made) ∙ sexp_atom w terms;
+      is = ap formula_sexp (sym made) ∙ sexp_atom w terms;
       same = each_found term_in term_sexp term_found parts terms are;
     }
 
-compared_or_parts : (o : Option Cmp) (w : List ℕ) (parts : List Sexp) (p : Phrase) → comparison_of w ≡ o → compared_or_atom o w parts ≡ Some p → Shown w parts p
+compared_or_parts : (o : Option Cmp) (w : List ℕ) (parts : List Sexp) (p : WrittenFormula) → comparison_of w ≡ o → compared_or_atom o w parts ≡ Some p → Shown w parts p
 compared_or_parts None w parts p is e = atom_parts w parts p e
 compared_or_parts (Some c) w parts p is e = test_parts w c parts p (comparison_found w c is) e
 
 -- ---- connectives and quantifiers
 
-module _ (read : Sexp → Option Phrase) (found : (one : Sexp) (p : Phrase) → read one ≡ Some p → phrase_sexp p ≡ no_lines one) where
-  quantified_parts : (parts : List Sexp) (q : List (Var × ColType) × Phrase) → quantified_of read parts ≡ Some q → (scope_sexp q.0 ∷ phrase_sexp q.1 ∷ []) ≡ map no_lines parts
+module _ (read : Sexp → Option WrittenFormula) (found : (one : Sexp) (p : WrittenFormula) → read one ≡ Some p → formula_sexp p ≡ no_lines one) where
+  quantified_parts : (parts : List Sexp) (q : List (Var × ColType) × WrittenFormula) → quantified_of read parts ≡ Some q → (scope_sexp q.0 ∷ formula_sexp q.1 ∷ []) ≡ map no_lines parts
   quantified_parts [] q e = absurd cc
   quantified_parts (a ∷ []) q e = absurd cc
   quantified_parts (a ∷ b ∷ []) q e =
       let (vars, is, rest) = first_found (some_scope_in a) (λ xs. read b >>= λ p. Some (xs, p)) q e in
       let (p, was, made) = first_found (read b) (λ y. Some (vars, y)) q rest in
-      ap (λ y. scope_sexp y.0 ∷ phrase_sexp y.1 ∷ []) (sym (some_is (vars, p) q made))
-      ∙ ap (λ y. y ∷ phrase_sexp p ∷ []) (some_scope_found a vars is) ∙ ap (λ y. no_lines a ∷ y ∷ []) (found b p was)
+      ap (λ y. scope_sexp y.0 ∷ formula_sexp y.1 ∷ []) (sym (some_is (vars, p) q made))
+      ∙ ap (λ y. y ∷ formula_sexp p ∷ []) (some_scope_found a vars is) ∙ ap (λ y. no_lines a ∷ y ∷ []) (found b p was)
   quantified_parts (a ∷ b ∷ c ∷ parts) q e = absurd cc
 
-  or_parts : (w : List ℕ) (parts : List Sexp) (p : Phrase) → is_word w (codes "or") ≡ true → option_map phrase.Or (each read parts) ≡ Some p → Shown w parts p
+  or_parts : (w : List ℕ) (parts : List Sexp) (p : WrittenFormula) → is_word w (codes "or") ≡ true → option_map written_formula.Or (each read parts) ≡ Some p → Shown w parts p
   or_parts w parts p word e =
-      let (ps, are, made) = mapped_found phrase.Or (each read parts) p e in
+      let (ps, are, made) = mapped_found written_formula.Or (each read parts) p e in
       record {
-        printed = map phrase_sexp ps;
-        is = ap phrase_sexp (sym made) ∙ sexp_or ps ∙ ap (λ k. form k (map phrase_sexp ps)) (sym (word_is w (codes "or") word));
-        same = each_found read phrase_sexp found parts ps are;
+        printed = map formula_sexp ps;
+        is = ap formula_sexp (sym made) ∙ sexp_or ps ∙ ap (λ k. form k (map formula_sexp ps)) (sym (word_is w (codes "or") word));
+        same = each_found read formula_sexp found parts ps are;
       }
 
-  implies_parts : (w : List ℕ) (parts : List Sexp) (p : Phrase) → is_word w (codes "implies") ≡ true → option_map (λ q. phrase.Implies q.0 q.1) (two_of read parts) ≡ Some p → Shown w parts p
+  implies_parts : (w : List ℕ) (parts : List Sexp) (p : WrittenFormula) → is_word w (codes "implies") ≡ true → option_map (λ q. written_formula.Implies q.0 q.1) (two_of read parts) ≡ Some p → Shown w parts p
   implies_parts w parts p word e =
-      let (q, are, made) = mapped_found (λ q. phrase.Implies q.0 q.1) (two_of read parts) p e in
+      let (q, are, made) = mapped_found (λ q. written_formula.Implies q.0 q.1) (two_of read parts) p e in
       record {
-        printed = phrase_sexp q.0 ∷ phrase_sexp q.1 ∷ [];
-        is = ap phrase_sexp (sym made) ∙ sexp_implies q.0 q.1 ∙ ap (λ k. form k (phrase_sexp q.0 ∷ phrase_sexp q.1 ∷ [])) (sym (word_is w (codes "implies") word));
+        printed = formula_sexp q.0 ∷ formula_sexp q.1 ∷ [];
+        is = ap formula_sexp (sym made) ∙ sexp_implies q.0 q.1 ∙ ap (λ k. form k (formula_sexp q.0 ∷ formula_sexp q.1 ∷ [])) (sym (word_is w (codes "implies") word));
         same = two_found read found parts q are;
       }
 
-  exists_parts : (w : List ℕ) (parts : List Sexp) (p : Phrase) → is_word w (codes "exists") ≡ true → option_map (λ q. phrase.Exists q.0 q.1) (quantified_of read parts) ≡ Some p → Shown w parts p
+  exists_parts : (w : List ℕ) (parts : List Sexp) (p : WrittenFormula) → is_word w (codes "exists") ≡ true → option_map (λ q. written_formula.Exists q.0 q.1) (quantified_of read parts) ≡ Some p → Shown w parts p
   exists_parts w parts p word e =
-      let (q, are, made) = mapped_found (λ q. phrase.Exists q.0 q.1) (quantified_of read parts) p e in
+      let (q, are, made) = mapped_found (λ q. written_formula.Exists q.0 q.1) (quantified_of read parts) p e in
       record {
-        printed = scope_sexp q.0 ∷ phrase_sexp q.1 ∷ [];
-        is = ap phrase_sexp (sym made) ∙ sexp_exists q.0 q.1 ∙ ap (λ k. form k (scope_sexp q.0 ∷ phrase_sexp q.1 ∷ [])) (sym (word_is w (codes "exists") word));
+        printed = scope_sexp q.0 ∷ formula_sexp q.1 ∷ [];
+        is = ap formula_sexp (sym made) ∙ sexp_exists q.0 q.1 ∙ ap (λ k. form k (scope_sexp q.0 ∷ formula_sexp q.1 ∷ [])) (sym (word_is w (codes "exists") word));
         same = quantified_parts parts q are;
       }
 
-  forall_parts : (w : List ℕ) (parts : List Sexp) (p : Phrase) → is_word w (codes "forall") ≡ true → option_map (λ q. phrase.Forall q.0 q.1) (quantified_of read parts) ≡ Some p → Shown w parts p
+  forall_parts : (w : List ℕ) (parts : List Sexp) (p : WrittenFormula) → is_word w (codes "forall") ≡ true → option_map (λ q. written_formula.Forall q.0 q.1) (quantified_of read parts) ≡ Some p → Shown w parts p
   forall_parts w parts p word e =
-      let (q, are, made) = mapped_found (λ q. phrase.Forall q.0 q.1) (quantified_of read parts) p e in
+      let (q, are, made) = mapped_found (λ q. written_formula.Forall q.0 q.1) (quantified_of read parts) p e in
       record {
-        printed = scope_sexp q.0 ∷ phrase_sexp q.1 ∷ [];
-        is = ap phrase_sexp (sym made) ∙ sexp_forall q.0 q.1 ∙ ap (λ k. form k (scope_sexp q.0 ∷ phrase_sexp q.1 ∷ [])) (sym (word_is w (codes "forall") word));
+        printed = scope_sexp q.0 ∷ formula_sexp q.1 ∷ [];
+        is = ap formula_sexp (sym made) ∙ sexp_forall q.0 q.1 ∙ ap (λ k. form k (scope_sexp q.0 ∷ formula_sexp q.1 ∷ [])) (sym (word_is w (codes "forall") word));
         same = quantified_parts parts q are;
       }
 
@@ -181,7 +181,7 @@ module _ (read : Sexp → Option Phrase) (found : (one : Sexp) (p : Phrase) → 
   last_word false false false true e f is _ _ _ n _ = absurd cc
   last_word false false false false true f is _ _ _ _ n = absurd cc
 
-  connected_parts : (w : List ℕ) (parts : List Sexp) (p : Phrase) → is_connective w ≡ true → connected read w parts ≡ Some p → Shown w parts p
+  connected_parts : (w : List ℕ) (parts : List Sexp) (p : WrittenFormula) → is_connective w ≡ true → connected read w parts ≡ Some p → Shown w parts p
   connected_parts w parts p is e =
       ⊎_elim (λ a. and_found read found w parts p a.0 a.1) (λ a.
       ⊎_elim (λ b. or_parts w parts p b.0 b.1) (λ b.
@@ -196,22 +196,22 @@ module _ (read : Sexp → Option Phrase) (found : (one : Sexp) (p : Phrase) → 
       (if_either (is_word w (codes "or")) _ _ p a.1))
       (if_either (is_word w (codes "and")) _ _ p e)
 
-  phrase_parts : (w : List ℕ) (parts : List Sexp) (p : Phrase) → phrase_of read w parts ≡ Some p → Shown w parts p
-  phrase_parts w parts p e =
+  formula_parts : (w : List ℕ) (parts : List Sexp) (p : WrittenFormula) → formula_of read w parts ≡ Some p → Shown w parts p
+  formula_parts w parts p e =
       ⊎_elim (λ a. connected_parts w parts p a.0 a.1) (λ b. compared_or_parts (comparison_of w) w parts p refl b.1)
       (if_either (is_connective w) (connected read w parts) (compared_or_atom (comparison_of w) w parts) p e)
 
-pub phrase_found : (depth : ℕ) (one : Sexp) (p : Phrase) → phrase_in depth one ≡ Some p → phrase_sexp p ≡ no_lines one
-phrase_found zero one p e = absurd (none_is p (sym (phrase_too_deep one) ∙ e))
+pub formula_found : (depth : ℕ) (one : Sexp) (p : WrittenFormula) → formula_in depth one ≡ Some p → formula_sexp p ≡ no_lines one
+formula_found zero one p e = absurd (none_is p (sym (formula_too_deep one) ∙ e))
   where
-    none_is : (p : Phrase) → None ≡ Some p → ⊥
+    none_is : (p : WrittenFormula) → None ≡ Some p → ⊥
     none_is p n = absurd cc
-phrase_found (suc depth) one p e = from_parts depth (phrase_parts (phrase_in depth) (phrase_found depth)) one p e
+formula_found (suc depth) one p e = from_parts depth (formula_parts (formula_in depth) (formula_found depth)) one p e
 
 -- ---- sentences and queries
 
 pub always_parts : (parts : List Sexp) (w : Written) → always_of parts ≡ Some w
-    → (name : List ℕ) × (body : Phrase) × (w ≡ written.Always name body) × ((word name ∷ phrase_sexp body ∷ []) ≡ map no_lines parts)
+    → (name : List ℕ) × (body : WrittenFormula) × (w ≡ written.Always name body) × ((word name ∷ formula_sexp body ∷ []) ≡ map no_lines parts)
 always_parts [] w e = absurd cc
 always_parts (c ∷ []) w e = absurd cc
 always_parts (c ∷ f ∷ []) w e =
@@ -220,12 +220,12 @@ always_parts (c ∷ f ∷ []) w e =
       name,
       body,
       sym (some_is (written.Always name body) w made),
-      ap (λ y. y ∷ phrase_sexp body ∷ []) (name_found c name is) ∙ ap (λ y. no_lines c ∷ y ∷ []) (phrase_found 64 f body was),
+      ap (λ y. y ∷ formula_sexp body ∷ []) (name_found c name is) ∙ ap (λ y. no_lines c ∷ y ∷ []) (formula_found 64 f body was),
     )
 always_parts (c ∷ f ∷ g ∷ parts) w e = absurd cc
 
 pub query_parts : (parts : List Sexp) (w : Written) → query_of parts ≡ Some w
-    → (name : List ℕ) × (vars : List (Var × ColType)) × (body : Phrase) × (w ≡ written.Query name vars body) × ((word name ∷ scope_sexp vars ∷ phrase_sexp body ∷ []) ≡ map no_lines parts)
+    → (name : List ℕ) × (vars : List (Var × ColType)) × (body : WrittenFormula) × (w ≡ written.Query name vars body) × ((word name ∷ scope_sexp vars ∷ formula_sexp body ∷ []) ≡ map no_lines parts)
 query_parts [] w e = absurd cc
 query_parts (c ∷ []) w e = absurd cc
 query_parts (c ∷ d ∷ []) w e = absurd cc
@@ -237,7 +237,7 @@ query_parts (c ∷ d ∷ f ∷ []) w e =
       vars,
       body,
       sym (some_is (written.Query name vars body) w made),
-      ap (λ y. y ∷ scope_sexp vars ∷ phrase_sexp body ∷ []) (name_found c name is) ∙ ap (λ y. no_lines c ∷ y ∷ phrase_sexp body ∷ []) (scope_found d vars are)
-          ∙ ap (λ y. no_lines c ∷ no_lines d ∷ y ∷ []) (phrase_found 64 f body was),
+      ap (λ y. y ∷ scope_sexp vars ∷ formula_sexp body ∷ []) (name_found c name is) ∙ ap (λ y. no_lines c ∷ y ∷ formula_sexp body ∷ []) (scope_found d vars are)
+          ∙ ap (λ y. no_lines c ∷ no_lines d ∷ y ∷ []) (formula_found 64 f body was),
     )
 query_parts (c ∷ d ∷ f ∷ g ∷ parts) w e = absurd cc

@@ -13,7 +13,7 @@ use Rattle.dbn_net.specs.declared.decl.Entry.TheVariants.{Part, Fact, Tokens}
 use Rattle.dbn_net.specs.Forms.{Name, declaration_in}
 use Rattle.dbn_net.specs.Printing.{no_lines, sexp_of}
 use Rattle.dbn_net.specs.Tables.{relation_names, query_names, field_names}
-use Rattle.dbn_net.specs.Naming.{number_of, control_number, count, resolved_phrase, fields_of, resolved_key, resolved_foreign, resolved_action, transition, resolved, named}
+use Rattle.dbn_net.specs.Naming.{number_of, control_number, count, resolved_formula, fields_of, resolved_key, resolved_foreign, resolved_action, transition, resolved, named}
 use Rattle.dbn_net.specs.Judging.{Begun, arcs_counted, is_counted, judged}
 use Rattle.dbn_net.specs.WellFormed.{Passes}
 use Rattle.dbn_net.proofs.Maybes.{some_is, first_found, mapped_found}
@@ -22,7 +22,7 @@ use Rattle.dbn_sexp.proofs.LinesLaws.{nesting_alike}
 use Rattle.dbn_net.proofs.DeclaredAgain.{declaration_found}
 use Rattle.dbn_net.proofs.NamedLaws.{name_again, names_again, key_again}
 use Rattle.dbn_net.proofs.NamedFormulas.{formula_again}
-use Rattle.dbn_net.proofs.NamedRules.{transition_again, action_again}
+use Rattle.dbn_net.proofs.NamedTransitions.{transition_again, action_again}
 use Rattle.dbn_net.proofs.JudgedLaws.{judged_is, same_tests}
 
 part_is : (x y : Decl) → Part x ≡ Part y → x ≡ y
@@ -43,10 +43,10 @@ named_again net (written.Relation name fields) d e c = ap (named net) (sym (part
 named_again net (written.Key rel fields) d e c = let (x, is, made) = mapped_found Part (resolved_key net rel fields) (Part d) e in ap (named net) (sym (part_is x d made)) ∙ key_again net rel fields x is
 named_again net (written.Foreign rel fields to to_fields) d e c = let (x, is, made) = mapped_found Part (resolved_foreign net rel fields to to_fields) (Part d) e in ap (named net) (sym (part_is x d made)) ∙ foreign_again net rel fields to to_fields x is
 named_again net (written.Always name body) d e c =
-    let (f, is, made) = mapped_found (λ g. Part (decl.Always name g)) (resolved_phrase (relation_names net) body) (Part d) e in
+    let (f, is, made) = mapped_found (λ g. Part (decl.Always name g)) (resolved_formula (relation_names net) body) (Part d) e in
     ap (named net) (sym (part_is (decl.Always name f) d made)) ∙ ap (written.Always name) (formula_again (relation_names net) body f is)
 named_again net (written.Query name vars body) d e c =
-    let (f, is, made) = mapped_found (λ g. Part (decl.Query name vars g)) (resolved_phrase (relation_names net) body) (Part d) e in
+    let (f, is, made) = mapped_found (λ g. Part (decl.Query name vars g)) (resolved_formula (relation_names net) body) (Part d) e in
     ap (named net) (sym (part_is (decl.Query name vars f) d made)) ∙ ap (written.Query name vars) (formula_again (relation_names net) body f is)
 named_again net (written.Action name params deletes adds) d e c =
     let (x, is, made) = mapped_found Part (resolved_action net name params deletes adds) (Part d) e in ap (named net) (sym (part_is x d made)) ∙ action_again net name params deletes adds x is

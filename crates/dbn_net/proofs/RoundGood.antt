@@ -24,7 +24,7 @@ use Rattle.dbn_net.proofs.RoundPlaces.{known_places, all_counted}
 use Rattle.dbn_net.proofs.RoundWhole.{Rebuilds}
 use Rattle.dbn_net.proofs.RoundDepth.{canonical_within}
 use Rattle.dbn_net.proofs.RoundNext.{RowsBelow, CountedBelow}
-use Rattle.dbn_net.proofs.RoundRules.{rules_below}
+use Rattle.dbn_net.proofs.RoundTransitions.{rules_below}
 use Rattle.dbn_net.proofs.RoundText.{text_again}
 
 rows_long : (facts : Instance) (shapes : List (List ColType)) → RowsFit facts shapes → length shapes ≡ length facts

@@ -18,20 +18,20 @@ use Rattle.dbn_formula.specs.Free.{variable_of}
 use Rattle.dbn_formula.specs.Distinct.{distinct_vars}
 use Rattle.dbn_formula.proofs.VariableLaws.{var_other, is_of_in, in_firsts}
 use Rattle.dbn_formula.proofs.Maps.{map-map}
-use Rattle.dbn_net.specs.declared.written.Group.{Group}
-use Rattle.dbn_net.specs.declared.written.Heap.{Heap}
-use Rattle.dbn_net.specs.declared.written.Parts.{Parts}
-use Rattle.dbn_net.specs.declared.written.Move.{Move}
-use Rattle.dbn_net.specs.declared.written.Move.TheVariants as move
-use Rattle.dbn_net.specs.declared.written.Rule.{Rule}
+use Rattle.dbn_net.specs.declared.written.WrittenAtom.{WrittenAtom}
+use Rattle.dbn_net.specs.declared.written.WrittenPattern.{WrittenPattern}
+use Rattle.dbn_net.specs.declared.written.WrittenArc.{WrittenArc}
+use Rattle.dbn_net.specs.declared.written.WrittenInput.{WrittenInput}
+use Rattle.dbn_net.specs.declared.written.WrittenInput.TheVariants as input
+use Rattle.dbn_net.specs.declared.written.WrittenTransition.{WrittenTransition}
 use Rattle.dbn_net.specs.declared.rules.Arc.{Arc}
 use Rattle.dbn_net.specs.declared.rules.Read.{Read}
 use Rattle.dbn_net.specs.declared.rules.Transition.{Transition}
 use Rattle.dbn_net.specs.declared.decl.Decl.{Decl}
 use Rattle.dbn_net.specs.Forms.{Name}
 use Rattle.dbn_net.specs.Tables.{place_shapes, given, with_type, scope_of}
-use Rattle.dbn_net.specs.Naming.{control_number, view_number, pattern, arc, read, ins_of, reads_of, typed_occurrences, columns_at, move_occurrences, first_typed, bound_of}
-use Rattle.dbn_net.specs.Judging.{is_new, once_behind, once, var_names, scope_names, move_vars, bound_vars, rule_once}
+use Rattle.dbn_net.specs.Naming.{control_number, view_number, pattern, arc, read, ins_of, reads_of, typed_occurrences, columns_at, input_occurrences, first_typed, bound_of}
+use Rattle.dbn_net.specs.Judging.{is_new, once_behind, once, var_names, scope_names, input_vars, bound_vars, transition_once}
 use Rattle.dbn_net.specs.WellFormed.{arc_vars, read_vars, clause_vars, transition_scoped}
 use Rattle.dbn_net.proofs.Maybes.{mapped_found}
 use Rattle.dbn_net.proofs.Listed.{each_flat, map_flat, map_filter}
@@ -80,15 +80,15 @@ occurrence_vars (term.Const v ∷ terms) [] = occurrence_vars terms []
 occurrence_vars (term.Var x ∷ terms) (type ∷ shape) = ap (λ l. x ∷ l) (occurrence_vars terms shape)
 occurrence_vars (term.Const v ∷ terms) (type ∷ shape) = occurrence_vars terms shape
 
-move_vars_are : (net : List Decl) (m : Move) → map var_in (move_occurrences net m) ≡ move_vars m
-move_vars_are net (move.In p) =
-    map_flat var_in (λ (h : Heap). typed_occurrences h.terms (columns_at (place_shapes net) (control_number net p.place))) (λ h. flat_map variable_of h.terms)
-    (λ h. occurrence_vars h.terms (columns_at (place_shapes net) (control_number net p.place))) p.heaps
-move_vars_are net (move.Read g) = occurrence_vars g.terms (columns_at (place_shapes net) (view_number net g.name))
+input_vars_are : (net : List Decl) (m : WrittenInput) → map var_in (input_occurrences net m) ≡ input_vars m
+input_vars_are net (input.In p) =
+    map_flat var_in (λ (h : WrittenPattern). typed_occurrences h.terms (columns_at (place_shapes net) (control_number net p.place))) (λ h. flat_map variable_of h.terms)
+    (λ h. occurrence_vars h.terms (columns_at (place_shapes net) (control_number net p.place))) p.patterns
+input_vars_are net (input.Read g) = occurrence_vars g.terms (columns_at (place_shapes net) (view_number net g.name))
 
-pub bound_vars_are : (net : List Decl) (moves : List Move) → map var_in (bound_of net moves) ≡ bound_vars moves
-bound_vars_are net moves =
-    first_vars (flat_map (move_occurrences net) moves) ∙ ap firsts (map_flat var_in (move_occurrences net) move_vars (move_vars_are net) moves)
+pub bound_vars_are : (net : List Decl) (inputs : List WrittenInput) → map var_in (bound_of net inputs) ≡ bound_vars inputs
+bound_vars_are net inputs =
+    first_vars (flat_map (input_occurrences net) inputs) ∙ ap firsts (map_flat var_in (input_occurrences net) input_vars (input_vars_are net) inputs)
 
 -- ---- each variable of a transition stands once
 
@@ -98,54 +98,54 @@ names_map vars = sym (map-map (λ (x : Var). x.name) var_in vars)
 fresh_names : (xs : List Var) → scope_names (with_type col.Id xs) ≡ var_names xs
 fresh_names xs = map-map (λ (x : Var × ColType). x.0.name) (λ (x : Var). (x, col.Id)) xs
 
-scope_name_list : (net : List Decl) (r : Rule) (t : Transition) → Made net r t → scope_names (scope_of t) ≡ var_names (bound_vars r.moves) ++ scope_names r.asked ++ var_names r.fresh
+scope_name_list : (net : List Decl) (r : WrittenTransition) (t : Transition) → Made net r t → scope_names (scope_of t) ≡ var_names (bound_vars r.inputs) ++ scope_names r.asked ++ var_names r.fresh
 scope_name_list net r t made =
     map-append (λ (x : Var × ColType). x.0.name) (given t) (with_type col.Id t.fresh)
     ∙ ap (λ l. l ++ scope_names (with_type col.Id t.fresh)) (map-append (λ (x : Var × ColType). x.0.name) t.bound t.asked)
-    ∙ ap (λ l. l ++ scope_names t.asked ++ scope_names (with_type col.Id t.fresh)) (names_map t.bound ∙ ap (λ vars. var_names (map var_in vars)) made.bound ∙ ap var_names (bound_vars_are net r.moves))
-    ∙ ap (λ vars. var_names (bound_vars r.moves) ++ scope_names vars ++ scope_names (with_type col.Id t.fresh)) made.asked
-    ∙ ap (λ l. var_names (bound_vars r.moves) ++ scope_names r.asked ++ l) (fresh_names t.fresh ∙ ap var_names made.fresh)
+    ∙ ap (λ l. l ++ scope_names t.asked ++ scope_names (with_type col.Id t.fresh)) (names_map t.bound ∙ ap (λ vars. var_names (map var_in vars)) made.bound ∙ ap var_names (bound_vars_are net r.inputs))
+    ∙ ap (λ vars. var_names (bound_vars r.inputs) ++ scope_names vars ++ scope_names (with_type col.Id t.fresh)) made.asked
+    ∙ ap (λ l. var_names (bound_vars r.inputs) ++ scope_names r.asked ++ l) (fresh_names t.fresh ∙ ap var_names made.fresh)
 
 -- ---- each bound variable occurs in a clause
 
-abbrev part_vars : Parts → List Var
-part_vars p = flat_map (λ h. flat_map variable_of h.terms) p.heaps
+abbrev part_vars : WrittenArc → List Var
+part_vars p = flat_map (λ h. flat_map variable_of h.terms) p.patterns
 
-abbrev group_vars : Group → List Var
-group_vars g = flat_map variable_of g.terms
+abbrev written_atom_vars : WrittenAtom → List Var
+written_atom_vars g = flat_map variable_of g.terms
 
-arc_part : (net : List Decl) (p : Parts) (a : Arc) → arc net p ≡ Some a → flat_map (λ q. flat_map variable_of q.terms) a.patterns ≡ part_vars p
+arc_part : (net : List Decl) (p : WrittenArc) (a : Arc) → arc net p ≡ Some a → flat_map (λ q. flat_map variable_of q.terms) a.patterns ≡ part_vars p
 arc_part net p a e =
-    let (n, is, made) = mapped_found (λ k. record { place = k; patterns = map pattern p.heaps }) (control_number net p.place) a e in
-    ap (λ (b : Arc). flat_map (λ q. flat_map variable_of q.terms) b.patterns) (sym made) ∙ flat_map-map (λ q. flat_map variable_of q.terms) pattern p.heaps
+    let (n, is, made) = mapped_found (λ k. record { place = k; patterns = map pattern p.patterns }) (control_number net p.place) a e in
+    ap (λ (b : Arc). flat_map (λ q. flat_map variable_of q.terms) b.patterns) (sym made) ∙ flat_map-map (λ q. flat_map variable_of q.terms) pattern p.patterns
 
-read_part : (net : List Decl) (g : Group) (r : Read) → read net g ≡ Some r → flat_map variable_of r.terms ≡ group_vars g
+read_part : (net : List Decl) (g : WrittenAtom) (r : Read) → read net g ≡ Some r → flat_map variable_of r.terms ≡ written_atom_vars g
 read_part net g r e =
     let (n, is, made) = mapped_found (λ k. record { view = k; terms = g.terms }) (view_number net g.name) r e in
     ap (λ (q : Read). flat_map variable_of q.terms) (sym made)
 
-parted : (x : Var) (moves : List Move) → In x (flat_map move_vars moves) → In x (flat_map part_vars (ins_of moves)) ⊎ In x (flat_map group_vars (reads_of moves))
+parted : (x : Var) (inputs : List WrittenInput) → In x (flat_map input_vars inputs) → In x (flat_map part_vars (ins_of inputs)) ⊎ In x (flat_map written_atom_vars (reads_of inputs))
 parted x [] at = absurd at
-parted x (move.In p ∷ moves) at =
-    ⊎_elim (λ here. inl (append_left x (part_vars p) (flat_map part_vars (ins_of moves)) here))
-    (λ later. ⊎_elim (λ a. inl (append_right x (part_vars p) (flat_map part_vars (ins_of moves)) a)) (λ b. inr b) (parted x moves later))
-    (in_append x (part_vars p) (flat_map move_vars moves) at)
-parted x (move.Read g ∷ moves) at =
-    ⊎_elim (λ here. inr (append_left x (group_vars g) (flat_map group_vars (reads_of moves)) here))
-    (λ later. ⊎_elim (λ a. inl a) (λ b. inr (append_right x (group_vars g) (flat_map group_vars (reads_of moves)) b)) (parted x moves later))
-    (in_append x (group_vars g) (flat_map move_vars moves) at)
+parted x (input.In p ∷ inputs) at =
+    ⊎_elim (λ here. inl (append_left x (part_vars p) (flat_map part_vars (ins_of inputs)) here))
+    (λ later. ⊎_elim (λ a. inl (append_right x (part_vars p) (flat_map part_vars (ins_of inputs)) a)) (λ b. inr b) (parted x inputs later))
+    (in_append x (part_vars p) (flat_map input_vars inputs) at)
+parted x (input.Read g ∷ inputs) at =
+    ⊎_elim (λ here. inr (append_left x (written_atom_vars g) (flat_map written_atom_vars (reads_of inputs)) here))
+    (λ later. ⊎_elim (λ a. inl a) (λ b. inr (append_right x (written_atom_vars g) (flat_map written_atom_vars (reads_of inputs)) b)) (parted x inputs later))
+    (in_append x (written_atom_vars g) (flat_map input_vars inputs) at)
 
-occurs : (net : List Decl) (r : Rule) (t : Transition) → Made net r t → (x : Var × ColType) → In x t.bound → In x.0 (clause_vars t)
+occurs : (net : List Decl) (r : WrittenTransition) (t : Transition) → Made net r t → (x : Var × ColType) → In x t.bound → In x.0 (clause_vars t)
 occurs net r t made x at =
-    let named : In x.0 (bound_vars r.moves) = subst (λ l. In x.0 l) (ap (map var_in) made.bound ∙ bound_vars_are net r.moves) (map_in var_in x t.bound at) in
+    let named : In x.0 (bound_vars r.inputs) = subst (λ l. In x.0 l) (ap (map var_in) made.bound ∙ bound_vars_are net r.inputs) (map_in var_in x t.bound at) in
     ⊎_elim
     (λ a. append_left x.0 (arc_vars t.ins) (read_vars t.reads)
-    (subst (λ l. In x.0 l) (sym (each_flat (arc net) (λ (b : Arc). flat_map (λ q. flat_map variable_of q.terms) b.patterns) part_vars (arc_part net) (ins_of r.moves) t.ins made.ins)) a))
+    (subst (λ l. In x.0 l) (sym (each_flat (arc net) (λ (b : Arc). flat_map (λ q. flat_map variable_of q.terms) b.patterns) part_vars (arc_part net) (ins_of r.inputs) t.ins made.ins)) a))
     (λ b. append_right x.0 (arc_vars t.ins) (read_vars t.reads)
-    (subst (λ l. In x.0 l) (sym (each_flat (read net) (λ (q : Read). flat_map variable_of q.terms) group_vars (read_part net) (reads_of r.moves) t.reads made.reads)) b))
-    (parted x.0 r.moves (in_firsts x.0 (flat_map move_vars r.moves) named))
+    (subst (λ l. In x.0 l) (sym (each_flat (read net) (λ (q : Read). flat_map variable_of q.terms) written_atom_vars (read_part net) (reads_of r.inputs) t.reads made.reads)) b))
+    (parted x.0 r.inputs (in_firsts x.0 (flat_map input_vars r.inputs) named))
 
-pub scoped : (net : List Decl) (r : Rule) (t : Transition) → Made net r t → rule_once r ≡ true → transition_scoped t ≡ true
+pub scoped : (net : List Decl) (r : WrittenTransition) (t : Transition) → Made net r t → transition_once r ≡ true → transition_scoped t ≡ true
 scoped net r t made once_all =
     and_from (distinct_vars (scope_of t)) (list_all (λ x. is_in x.0 (clause_vars t)) t.bound)
     (once_distinct [] (scope_of t) (ap once (scope_name_list net r t made) ∙ once_all))

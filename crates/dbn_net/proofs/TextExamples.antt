@@ -14,11 +14,11 @@ use Rattle.dbn_formula.proofs.SafeLaws.{safe_laws}
 use Rattle.dbn_net.specs.declared.fault.NetKind.TheVariants as kind
 use Rattle.dbn_net.specs.Maybe.{◌>>=◌}
 use Rattle.dbn_sexp.specs.Parts.{list_in}
-use Rattle.dbn_net.specs.Forms.{Name, phrase_in, phrase_of, with_word}
+use Rattle.dbn_net.specs.Forms.{Name, formula_in, formula_of, with_word}
 use Rattle.dbn_net.specs.Printing.{word, constant}
 use Rattle.dbn_net.specs.Texts.{Start, Fault, fault, read_list}
 use Rattle.dbn_sexp.proofs.PartLaws.{part_laws}
-use Rattle.dbn_net.proofs.PhraseLaws.{declaration_is, phrase_deeper, sexp_laws, guard_laws, quantifies_laws, resolved_laws}
+use Rattle.dbn_net.proofs.WrittenFormulaLaws.{declaration_is, formula_deeper, sexp_laws, guard_laws, quantifies_laws, resolved_laws}
 use Rattle.dbn_net.proofs.AtomLaws.{short_laws}
 
 -- ---- texts as lists, one declaration a line
@@ -38,11 +38,11 @@ l parts = record { line = 0; item = item.List parts }
 abbrev at : ℕ → List Sexp → Sexp
 at line parts = record { line = line; item = item.List parts }
 
-deeper : (one : Sexp) → phrase_in 64 one ≡ (list_in one >>= with_word (phrase_of (phrase_in 63)))
-deeper one = phrase_deeper 63 one
+deeper : (one : Sexp) → formula_in 64 one ≡ (list_in one >>= with_word (formula_of (formula_in 63)))
+deeper one = formula_deeper 63 one
 
-deeper_63 : (one : Sexp) → phrase_in 63 one ≡ (list_in one >>= with_word (phrase_of (phrase_in 62)))
-deeper_63 one = phrase_deeper 62 one
+deeper_63 : (one : Sexp) → formula_in 63 one ≡ (list_in one >>= with_word (formula_of (formula_in 62)))
+deeper_63 one = formula_deeper 62 one
 
 -- ---- ten nets that are refused, each for its own kind
 

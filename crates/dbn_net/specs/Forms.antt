@@ -14,18 +14,18 @@ use Rattle.dbn_value.specs.declared.term.Term.TheVariants as term
 use Rattle.dbn_value.specs.declared.term.Cmp.{Cmp}
 use Rattle.dbn_value.specs.declared.term.Cmp.TheVariants as cmp
 use Rattle.dbn_sexp.specs.declared.sexp.Sexp.{Sexp}
-use Rattle.dbn_net.specs.declared.written.Phrase.{Phrase}
-use Rattle.dbn_net.specs.declared.written.Phrase.TheVariants as phrase
-use Rattle.dbn_net.specs.declared.written.Phrase.TheOpen.{Phrase-F}
-use Rattle.dbn_net.specs.declared.written.Phrase.TheOpen as layer
-use Rattle.dbn_net.specs.declared.written.Phrase.TheFolds.{fold-Phrase}
-use Rattle.dbn_net.specs.declared.written.Group.{Group}
-use Rattle.dbn_net.specs.declared.written.Heap.{Heap}
-use Rattle.dbn_net.specs.declared.written.Parts.{Parts}
-use Rattle.dbn_net.specs.declared.written.Move.TheVariants as move
-use Rattle.dbn_net.specs.declared.written.Rule.{Rule}
-use Rattle.dbn_net.specs.declared.written.Clause.{Clause}
-use Rattle.dbn_net.specs.declared.written.Clause.TheVariants.{Moves, Guards, Asks, Draws, Calls, Puts, Returns}
+use Rattle.dbn_net.specs.declared.written.WrittenFormula.{WrittenFormula}
+use Rattle.dbn_net.specs.declared.written.WrittenFormula.TheVariants as written_formula
+use Rattle.dbn_net.specs.declared.written.WrittenFormula.TheOpen.{WrittenFormula-F}
+use Rattle.dbn_net.specs.declared.written.WrittenFormula.TheOpen as layer
+use Rattle.dbn_net.specs.declared.written.WrittenFormula.TheFolds.{fold-WrittenFormula}
+use Rattle.dbn_net.specs.declared.written.WrittenAtom.{WrittenAtom}
+use Rattle.dbn_net.specs.declared.written.WrittenPattern.{WrittenPattern}
+use Rattle.dbn_net.specs.declared.written.WrittenArc.{WrittenArc}
+use Rattle.dbn_net.specs.declared.written.WrittenInput.TheVariants as input
+use Rattle.dbn_net.specs.declared.written.WrittenTransition.{WrittenTransition}
+use Rattle.dbn_net.specs.declared.written.WrittenClause.{WrittenClause}
+use Rattle.dbn_net.specs.declared.written.WrittenClause.TheVariants.{Inputs, Guards, Asks, Draws, Calls, Puts, Returns}
 use Rattle.dbn_net.specs.declared.written.Written.{Written}
 use Rattle.dbn_net.specs.declared.written.Written.TheVariants as written
 use Rattle.dbn_net.specs.Maybe.{◌>>=◌, each, some, or_else, only_if}
@@ -112,75 +112,75 @@ comparison_of word =
     else if is_word word (codes ">=") then Some cmp.Ge
     else None
 
-abbrev pub test_of : Cmp → List Sexp → Option Phrase
-test_of c (a ∷ b ∷ []) = term_in a >>= λ left. term_in b >>= λ right. Some (phrase.Test c left right)
+abbrev pub test_of : Cmp → List Sexp → Option WrittenFormula
+test_of c (a ∷ b ∷ []) = term_in a >>= λ left. term_in b >>= λ right. Some (written_formula.Test c left right)
 test_of c parts = None
 
-abbrev pub atom_of : Name → List Sexp → Option Phrase
-atom_of word parts = if is_identifier word then option_map (phrase.Atom word) (each term_in parts) else None
+abbrev pub atom_of : Name → List Sexp → Option WrittenFormula
+atom_of word parts = if is_identifier word then option_map (written_formula.Atom word) (each term_in parts) else None
 
-abbrev pub compared_or_atom : Option Cmp → Name → List Sexp → Option Phrase
+abbrev pub compared_or_atom : Option Cmp → Name → List Sexp → Option WrittenFormula
 compared_or_atom None word parts = atom_of word parts
 compared_or_atom (Some c) word parts = test_of c parts
 
 -- `read` reads a part
-abbrev pub one_of : (Sexp → Option Phrase) → List Sexp → Option Phrase
+abbrev pub one_of : (Sexp → Option WrittenFormula) → List Sexp → Option WrittenFormula
 one_of read (a ∷ []) = read a
 one_of read parts = None
 
-abbrev pub two_of : (Sexp → Option Phrase) → List Sexp → Option (Phrase × Phrase)
+abbrev pub two_of : (Sexp → Option WrittenFormula) → List Sexp → Option (WrittenFormula × WrittenFormula)
 two_of read (a ∷ b ∷ []) = read a >>= λ p. read b >>= λ q. Some (p, q)
 two_of read parts = None
 
-abbrev pub quantified_of : (Sexp → Option Phrase) → List Sexp → Option (List (Var × ColType) × Phrase)
+abbrev pub quantified_of : (Sexp → Option WrittenFormula) → List Sexp → Option (List (Var × ColType) × WrittenFormula)
 quantified_of read (a ∷ b ∷ []) = some_scope_in a >>= λ vars. read b >>= λ p. Some (vars, p)
 quantified_of read parts = None
 
-abbrev pub connected : (Sexp → Option Phrase) → Name → List Sexp → Option Phrase
+abbrev pub connected : (Sexp → Option WrittenFormula) → Name → List Sexp → Option WrittenFormula
 connected read word parts =
-    if is_word word (codes "and") then option_map phrase.And (each read parts)
-    else if is_word word (codes "or") then option_map phrase.Or (each read parts)
-    else if is_word word (codes "not") then option_map phrase.Not (one_of read parts)
-    else if is_word word (codes "implies") then option_map (λ q. phrase.Implies q.0 q.1) (two_of read parts)
-    else if is_word word (codes "exists") then option_map (λ q. phrase.Exists q.0 q.1) (quantified_of read parts)
-    else option_map (λ q. phrase.Forall q.0 q.1) (quantified_of read parts)
+    if is_word word (codes "and") then option_map written_formula.And (each read parts)
+    else if is_word word (codes "or") then option_map written_formula.Or (each read parts)
+    else if is_word word (codes "not") then option_map written_formula.Not (one_of read parts)
+    else if is_word word (codes "implies") then option_map (λ q. written_formula.Implies q.0 q.1) (two_of read parts)
+    else if is_word word (codes "exists") then option_map (λ q. written_formula.Exists q.0 q.1) (quantified_of read parts)
+    else option_map (λ q. written_formula.Forall q.0 q.1) (quantified_of read parts)
 
-abbrev pub phrase_of : (Sexp → Option Phrase) → Name → List Sexp → Option Phrase
-phrase_of read word parts = if is_connective word then connected read word parts else compared_or_atom (comparison_of word) word parts
+abbrev pub formula_of : (Sexp → Option WrittenFormula) → Name → List Sexp → Option WrittenFormula
+formula_of read word parts = if is_connective word then connected read word parts else compared_or_atom (comparison_of word) word parts
 
 -- a formula that nests no deeper; a text nests at most 64 deep
-unfoldable pub phrase_in : ℕ → Sexp → Option Phrase
-phrase_in zero one = None
-phrase_in (suc depth) one = list_in one >>= with_word (phrase_of (phrase_in depth))
+unfoldable pub formula_in : ℕ → Sexp → Option WrittenFormula
+formula_in zero one = None
+formula_in (suc depth) one = list_in one >>= with_word (formula_of (formula_in depth))
 
-abbrev pub body_in : Sexp → Option Phrase
-body_in one = phrase_in 64 one
+abbrev pub body_in : Sexp → Option WrittenFormula
+body_in one = formula_in 64 one
 
 -- ---- clauses of a transition
 
 -- R t.. , V t.. , a t..
-abbrev pub group_of : List Sexp → Option Group
-group_of [] = None
-group_of (a ∷ parts) = name_in a >>= λ name. each term_in parts >>= λ terms. Some (record { name = name; terms = terms })
+abbrev pub written_atom_of : List Sexp → Option WrittenAtom
+written_atom_of [] = None
+written_atom_of (a ∷ parts) = name_in a >>= λ name. each term_in parts >>= λ terms. Some (record { name = name; terms = terms })
 
-abbrev pub group_in : Sexp → Option Group
-group_in one = list_in one >>= group_of
+abbrev pub written_atom_in : Sexp → Option WrittenAtom
+written_atom_in one = list_in one >>= written_atom_of
 
 -- (n t..)
-abbrev pub heap_of : List Sexp → Option Heap
-heap_of [] = None
-heap_of (a ∷ parts) = int_in a >>= λ many. each term_in parts >>= λ terms. Some (record { many = many; terms = terms })
+abbrev pub written_pattern_of : List Sexp → Option WrittenPattern
+written_pattern_of [] = None
+written_pattern_of (a ∷ parts) = int_in a >>= λ many. each term_in parts >>= λ terms. Some (record { many = many; terms = terms })
 
-abbrev pub heap_in : Sexp → Option Heap
-heap_in one = list_in one >>= heap_of
+abbrev pub written_pattern_in : Sexp → Option WrittenPattern
+written_pattern_in one = list_in one >>= written_pattern_of
 
 -- P (n t..)..+
-abbrev pub parts_of : List Sexp → Option Parts
-parts_of [] = None
-parts_of (a ∷ parts) = name_in a >>= λ place. each heap_in parts >>= some >>= λ heaps. Some (record { place = place; heaps = heaps })
+abbrev pub written_arc_of : List Sexp → Option WrittenArc
+written_arc_of [] = None
+written_arc_of (a ∷ parts) = name_in a >>= λ place. each written_pattern_in parts >>= some >>= λ patterns. Some (record { place = place; patterns = patterns })
 
 -- comparisons, `and`, `or`, `not` and `implies` alone
-abbrev pub guard_step : Phrase-F Bool → Bool
+abbrev pub guard_step : WrittenFormula-F Bool → Bool
 guard_step (layer.Atom rel terms) = false
 guard_step (layer.Test cmp left right) = true
 guard_step (layer.And parts) = list_all (λ part. part) parts
@@ -190,31 +190,31 @@ guard_step (layer.Implies left right) = left && right
 guard_step (layer.Exists vars body) = false
 guard_step (layer.Forall vars body) = false
 
-unfoldable pub is_guard : Phrase → Bool
-is_guard p = fold-Phrase Bool guard_step p
+unfoldable pub is_guard : WrittenFormula → Bool
+is_guard p = fold-WrittenFormula Bool guard_step p
 
-abbrev pub guard_of : List Sexp → Option Clause
+abbrev pub guard_of : List Sexp → Option WrittenClause
 guard_of (a ∷ []) = body_in a >>= λ p. only_if (is_guard p) (Guards p)
 guard_of parts = None
 
-abbrev pub clause_of : Name → List Sexp → Option Clause
+abbrev pub clause_of : Name → List Sexp → Option WrittenClause
 clause_of word parts =
-    if is_word word (codes "in") then option_map (λ p. Moves (move.In p)) (parts_of parts)
-    else if is_word word (codes "read") then option_map (λ g. Moves (move.Read g)) (group_of parts)
+    if is_word word (codes "in") then option_map (λ p. Inputs (input.In p)) (written_arc_of parts)
+    else if is_word word (codes "read") then option_map (λ g. Inputs (input.Read g)) (written_atom_of parts)
     else if is_word word (codes "guard") then guard_of parts
     else if is_word word (codes "ask") then option_map Asks (each typed_variable_in parts >>= some)
     else if is_word word (codes "fresh") then option_map Draws (each variable_in parts >>= some)
-    else if is_word word (codes "do") then option_map Calls (group_of parts)
-    else if is_word word (codes "out") then option_map Puts (parts_of parts)
-    else if is_word word (codes "back") then option_map Returns (parts_of parts)
+    else if is_word word (codes "do") then option_map Calls (written_atom_of parts)
+    else if is_word word (codes "out") then option_map Puts (written_arc_of parts)
+    else if is_word word (codes "back") then option_map Returns (written_arc_of parts)
     else None
 
-abbrev pub clause_in : Sexp → Option Clause
+abbrev pub clause_in : Sexp → Option WrittenClause
 clause_in one = list_in one >>= with_word clause_of
 
 -- `in` and `read` in any mixture, then one `guard`, one `ask`, one `fresh` and one `do` at most, then `out`, then `back`
-abbrev pub rank : Clause → ℕ
-rank (Moves m) = 0
+abbrev pub rank : WrittenClause → ℕ
+rank (Inputs m) = 0
 rank (Guards p) = 1
 rank (Asks vars) = 2
 rank (Draws vars) = 3
@@ -229,8 +229,8 @@ repeats n = n == 0 || nat_lt 4 n
 abbrev pub follows : ℕ → ℕ → Bool
 follows last next = nat_lt last next || (last == next && repeats next)
 
-abbrev pub with_clause : Rule → Clause → Rule
-with_clause r (Moves m) = record r { moves = r.moves ++ m ∷ [] }
+abbrev pub with_clause : WrittenTransition → WrittenClause → WrittenTransition
+with_clause r (Inputs m) = record r { inputs = r.inputs ++ m ∷ [] }
 with_clause r (Guards p) = record r { guard = Some p }
 with_clause r (Asks vars) = record r { asked = vars }
 with_clause r (Draws vars) = record r { fresh = vars }
@@ -239,14 +239,14 @@ with_clause r (Puts p) = record r { outs = r.outs ++ p ∷ [] }
 with_clause r (Returns p) = record r { backs = r.backs ++ p ∷ [] }
 
 -- a transition without clauses
-abbrev pub bare_rule : Name → Rule
-bare_rule name = record { name = name; moves = []; guard = None; asked = []; fresh = []; call = None; outs = []; backs = [] }
+abbrev pub bare_transition : Name → WrittenTransition
+bare_transition name = record { name = name; inputs = []; guard = None; asked = []; fresh = []; call = None; outs = []; backs = [] }
 
 -- the rank of the last clause and the transition so far, with one more clause
-abbrev pub clause_step : ℕ × Rule → Sexp → Option (ℕ × Rule)
+abbrev pub clause_step : ℕ × WrittenTransition → Sexp → Option (ℕ × WrittenTransition)
 clause_step state one = clause_in one >>= λ c. if follows state.0 (rank c) then Some (rank c, with_clause state.1 c) else None
 
-abbrev pub clauses_from : ℕ × Rule → List Sexp → Option Rule
+abbrev pub clauses_from : ℕ × WrittenTransition → List Sexp → Option WrittenTransition
 clauses_from state [] = Some state.1
 clauses_from state (one ∷ parts) = clause_step state one >>= λ next. clauses_from next parts
 
@@ -290,10 +290,10 @@ query_of (a ∷ b ∷ c ∷ []) = name_in a >>= λ name. scope_in b >>= λ vars.
 query_of parts = None
 
 -- (delete (R t..)..) or (add (R t..)..)
-abbrev pub effect_of : Name → Name → List Sexp → Option (List Group)
-effect_of kind word parts = if is_word word kind then each group_in parts else None
+abbrev pub effect_of : Name → Name → List Sexp → Option (List WrittenAtom)
+effect_of kind word parts = if is_word word kind then each written_atom_in parts else None
 
-abbrev pub effect_in : Name → Sexp → Option (List Group)
+abbrev pub effect_in : Name → Sexp → Option (List WrittenAtom)
 effect_in kind one = list_in one >>= with_word (effect_of kind)
 
 -- a ((p type)..) (delete (R t..)..) (add (R t..)..)
@@ -315,7 +315,7 @@ view_of parts = None
 -- T clause..
 abbrev pub transition_of : List Sexp → Option Written
 transition_of [] = None
-transition_of (a ∷ parts) = name_in a >>= λ name. clauses_from (0, bare_rule name) parts >>= λ rule. Some (written.Transition rule)
+transition_of (a ∷ parts) = name_in a >>= λ name. clauses_from (0, bare_transition name) parts >>= λ rule. Some (written.Transition rule)
 
 -- R v..
 abbrev pub fact_of : List Sexp → Option Written

@@ -21,13 +21,13 @@ use Rattle.dbn_instance.specs.declared.fact.FactPattern.{FactPattern}
 use Rattle.dbn_marking.specs.Counts.{count_at}
 use Rattle.dbn_net.specs.declared.fault.NetKind.{NetKind}
 use Rattle.dbn_net.specs.declared.fault.NetKind.TheVariants as kind
-use Rattle.dbn_net.specs.declared.written.Phrase.{Phrase}
-use Rattle.dbn_net.specs.declared.written.Phrase.TheOpen.{Phrase-F}
-use Rattle.dbn_net.specs.declared.written.Phrase.TheOpen as layer
-use Rattle.dbn_net.specs.declared.written.Phrase.TheFolds.{fold-Phrase}
-use Rattle.dbn_net.specs.declared.written.Move.{Move}
-use Rattle.dbn_net.specs.declared.written.Move.TheVariants.{In, Read}
-use Rattle.dbn_net.specs.declared.written.Rule.{Rule}
+use Rattle.dbn_net.specs.declared.written.WrittenFormula.{WrittenFormula}
+use Rattle.dbn_net.specs.declared.written.WrittenFormula.TheOpen.{WrittenFormula-F}
+use Rattle.dbn_net.specs.declared.written.WrittenFormula.TheOpen as layer
+use Rattle.dbn_net.specs.declared.written.WrittenFormula.TheFolds.{fold-WrittenFormula}
+use Rattle.dbn_net.specs.declared.written.WrittenInput.{WrittenInput}
+use Rattle.dbn_net.specs.declared.written.WrittenInput.TheVariants.{In, Read}
+use Rattle.dbn_net.specs.declared.written.WrittenTransition.{WrittenTransition}
 use Rattle.dbn_net.specs.declared.written.Written.{Written}
 use Rattle.dbn_net.specs.declared.written.Written.TheVariants as written
 use Rattle.dbn_net.specs.declared.rules.Arc.{Arc}
@@ -66,16 +66,16 @@ short_names w = list_all is_short (atoms (sexp_of w).item)
 abbrev pub is_small : {A : Type 0} → List A → Bool
 is_small xs = nat_le (length xs) 16
 
-abbrev pub move_vars : Move → List Var
-move_vars (In p) = flat_map (λ h. flat_map variable_of h.terms) p.heaps
-move_vars (Read g) = flat_map variable_of g.terms
+abbrev pub input_vars : WrittenInput → List Var
+input_vars (In p) = flat_map (λ h. flat_map variable_of h.terms) p.patterns
+input_vars (Read g) = flat_map variable_of g.terms
 
 -- the bound variables, each once
-abbrev pub bound_vars : List Move → List Var
-bound_vars moves = firsts (flat_map move_vars moves)
+abbrev pub bound_vars : List WrittenInput → List Var
+bound_vars inputs = firsts (flat_map input_vars inputs)
 
-abbrev pub rule_small : Rule → Bool
-rule_small r = nat_le (length (bound_vars r.moves)) 64 && is_small r.asked && is_small r.fresh
+abbrev pub transition_small : WrittenTransition → Bool
+transition_small r = nat_le (length (bound_vars r.inputs)) 64 && is_small r.asked && is_small r.fresh
 
 -- no list of columns, parameters or query variables has more than 16 parts; a transition has at most 64 bound, 16 asked and
 -- 16 fresh variables
@@ -84,7 +84,7 @@ short_lists (written.Relation name fields) = is_small fields
 short_lists (written.Query name vars body) = is_small vars
 short_lists (written.Action name params deletes adds) = is_small params
 short_lists (written.Control name shape) = is_small shape
-short_lists (written.Transition r) = rule_small r
+short_lists (written.Transition r) = transition_small r
 short_lists w = true
 
 abbrev pub is_few : {A : Type 0} → List A → Bool
@@ -125,7 +125,7 @@ var_names vars = map (λ x. x.name) vars
 abbrev pub scope_names : TypedVars → List Name
 scope_names vars = map (λ x. x.0.name) vars
 
-abbrev pub quantifies_step : Phrase-F Bool → Bool
+abbrev pub quantifies_step : WrittenFormula-F Bool → Bool
 quantifies_step (layer.Atom rel terms) = true
 quantifies_step (layer.Test cmp left right) = true
 quantifies_step (layer.And parts) = list_all (λ part. part) parts
@@ -136,12 +136,12 @@ quantifies_step (layer.Exists vars body) = once (scope_names vars) && body
 quantifies_step (layer.Forall vars body) = once (scope_names vars) && body
 
 -- every quantifier names each variable once
-unfoldable pub quantifies_once : Phrase → Bool
-quantifies_once p = fold-Phrase Bool quantifies_step p
+unfoldable pub quantifies_once : WrittenFormula → Bool
+quantifies_once p = fold-WrittenFormula Bool quantifies_step p
 
 -- a guard quantifies nothing; the bound, asked and fresh variables all have names of their own
-abbrev pub rule_once : Rule → Bool
-rule_once r = once (var_names (bound_vars r.moves) ++ scope_names r.asked ++ var_names r.fresh)
+abbrev pub transition_once : WrittenTransition → Bool
+transition_once r = once (var_names (bound_vars r.inputs) ++ scope_names r.asked ++ var_names r.fresh)
 
 abbrev pub fact_is_new : Begun → List Value → Option ℕ → Bool
 fact_is_new begun row None = true
@@ -161,7 +161,7 @@ no_duplicate net begun (written.Query name vars body) = is_new (query_names net)
 no_duplicate net begun (written.Action name params deletes adds) = is_new (action_names net) name && once (scope_names params)
 no_duplicate net begun (written.Control name shape) = is_new (place_names net) name
 no_duplicate net begun (written.View name query) = is_new (place_names net) name
-no_duplicate net begun (written.Transition r) = is_new (transition_names net) r.name && rule_once r
+no_duplicate net begun (written.Transition r) = is_new (transition_names net) r.name && transition_once r
 no_duplicate net begun (written.Fact rel row) = fact_is_new begun row (number_of (relation_names net) rel)
 no_duplicate net begun (written.Token place many row) = token_is_new begun row (control_number net place)
 

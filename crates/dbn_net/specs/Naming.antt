@@ -15,17 +15,17 @@ use Rattle.dbn_formula.specs.declared.formula.Formula.TheOpen.{Formula-F}
 use Rattle.dbn_formula.specs.declared.formula.Formula.TheOpen as numbered
 use Rattle.dbn_formula.specs.declared.formula.Formula.TheFolds.{fold-Formula}
 use Rattle.dbn_instance.specs.declared.fact.FactPattern.{FactPattern}
-use Rattle.dbn_net.specs.declared.written.Phrase.{Phrase}
-use Rattle.dbn_net.specs.declared.written.Phrase.TheVariants as phrase
-use Rattle.dbn_net.specs.declared.written.Phrase.TheOpen.{Phrase-F}
-use Rattle.dbn_net.specs.declared.written.Phrase.TheOpen as layer
-use Rattle.dbn_net.specs.declared.written.Phrase.TheFolds.{fold-Phrase}
-use Rattle.dbn_net.specs.declared.written.Group.{Group}
-use Rattle.dbn_net.specs.declared.written.Heap.{Heap}
-use Rattle.dbn_net.specs.declared.written.Parts.{Parts}
-use Rattle.dbn_net.specs.declared.written.Move.{Move}
-use Rattle.dbn_net.specs.declared.written.Move.TheVariants as move
-use Rattle.dbn_net.specs.declared.written.Rule.{Rule}
+use Rattle.dbn_net.specs.declared.written.WrittenFormula.{WrittenFormula}
+use Rattle.dbn_net.specs.declared.written.WrittenFormula.TheVariants as written_formula
+use Rattle.dbn_net.specs.declared.written.WrittenFormula.TheOpen.{WrittenFormula-F}
+use Rattle.dbn_net.specs.declared.written.WrittenFormula.TheOpen as layer
+use Rattle.dbn_net.specs.declared.written.WrittenFormula.TheFolds.{fold-WrittenFormula}
+use Rattle.dbn_net.specs.declared.written.WrittenAtom.{WrittenAtom}
+use Rattle.dbn_net.specs.declared.written.WrittenPattern.{WrittenPattern}
+use Rattle.dbn_net.specs.declared.written.WrittenArc.{WrittenArc}
+use Rattle.dbn_net.specs.declared.written.WrittenInput.{WrittenInput}
+use Rattle.dbn_net.specs.declared.written.WrittenInput.TheVariants as input
+use Rattle.dbn_net.specs.declared.written.WrittenTransition.{WrittenTransition}
 use Rattle.dbn_net.specs.declared.written.Written.{Written}
 use Rattle.dbn_net.specs.declared.written.Written.TheVariants as written
 use Rattle.dbn_net.specs.declared.rules.Pattern.{Pattern}
@@ -64,7 +64,7 @@ view_number net name = number_of (place_names net) name >>= site_if is_view (pla
 
 -- ---- formulas
 
-abbrev pub number_step : List Name → Phrase-F (Option Formula) → Option Formula
+abbrev pub number_step : List Name → WrittenFormula-F (Option Formula) → Option Formula
 number_step names (layer.Atom rel terms) = option_map (λ n. formula.Atom n terms) (number_of names rel)
 number_step names (layer.Test cmp left right) = Some (formula.Test cmp left right)
 number_step names (layer.And parts) = option_map formula.And (all_known parts)
@@ -75,22 +75,22 @@ number_step names (layer.Exists vars body) = option_map (formula.Exists vars) bo
 number_step names (layer.Forall vars body) = option_map (formula.Forall vars) body
 
 -- the formula with the numbers of its relations
-unfoldable pub resolved_phrase : List Name → Phrase → Option Formula
-resolved_phrase names p = fold-Phrase (Option Formula) (number_step names) p
+unfoldable pub resolved_formula : List Name → WrittenFormula → Option Formula
+resolved_formula names p = fold-WrittenFormula (Option Formula) (number_step names) p
 
-abbrev pub name_step : List Name → Formula-F Phrase → Phrase
-name_step names (numbered.Atom rel terms) = phrase.Atom (name_at names rel) terms
-name_step names (numbered.Test cmp left right) = phrase.Test cmp left right
-name_step names (numbered.And parts) = phrase.And parts
-name_step names (numbered.Or parts) = phrase.Or parts
-name_step names (numbered.Not part) = phrase.Not part
-name_step names (numbered.Implies left right) = phrase.Implies left right
-name_step names (numbered.Exists vars body) = phrase.Exists vars body
-name_step names (numbered.Forall vars body) = phrase.Forall vars body
+abbrev pub name_step : List Name → Formula-F WrittenFormula → WrittenFormula
+name_step names (numbered.Atom rel terms) = written_formula.Atom (name_at names rel) terms
+name_step names (numbered.Test cmp left right) = written_formula.Test cmp left right
+name_step names (numbered.And parts) = written_formula.And parts
+name_step names (numbered.Or parts) = written_formula.Or parts
+name_step names (numbered.Not part) = written_formula.Not part
+name_step names (numbered.Implies left right) = written_formula.Implies left right
+name_step names (numbered.Exists vars body) = written_formula.Exists vars body
+name_step names (numbered.Forall vars body) = written_formula.Forall vars body
 
 -- the formula with the names of its relations
-unfoldable pub named_formula : List Name → Formula → Phrase
-named_formula names f = fold-Formula Phrase (name_step names) f
+unfoldable pub named_formula : List Name → Formula → WrittenFormula
+named_formula names f = fold-Formula WrittenFormula (name_step names) f
 
 -- ---- arcs, reads and calls
 
@@ -99,57 +99,57 @@ abbrev pub count : ℤ → ℕ
 count (pos n) = n
 count (negsuc n) = 0
 
-abbrev pub pattern : Heap → Pattern
+abbrev pub pattern : WrittenPattern → Pattern
 pattern h = record { many = count h.many; terms = h.terms }
 
-abbrev pub heap : Pattern → Heap
-heap p = record { many = pos p.many; terms = p.terms }
+abbrev pub written_pattern : Pattern → WrittenPattern
+written_pattern p = record { many = pos p.many; terms = p.terms }
 
-abbrev pub arc : List Decl → Parts → Option Arc
-arc net p = option_map (λ n. record { place = n; patterns = map pattern p.heaps }) (control_number net p.place)
+abbrev pub arc : List Decl → WrittenArc → Option Arc
+arc net p = option_map (λ n. record { place = n; patterns = map pattern p.patterns }) (control_number net p.place)
 
-abbrev pub parts : List Decl → Arc → Parts
-parts net a = record { place = name_at (place_names net) a.place; heaps = map heap a.patterns }
+abbrev pub written_arc : List Decl → Arc → WrittenArc
+written_arc net a = record { place = name_at (place_names net) a.place; patterns = map written_pattern a.patterns }
 
-abbrev pub read : List Decl → Group → Option Read
+abbrev pub read : List Decl → WrittenAtom → Option Read
 read net g = option_map (λ n. record { view = n; terms = g.terms }) (view_number net g.name)
 
-abbrev pub read_group : List Decl → Read → Group
-read_group net r = record { name = name_at (place_names net) r.view; terms = r.terms }
+abbrev pub written_read : List Decl → Read → WrittenAtom
+written_read net r = record { name = name_at (place_names net) r.view; terms = r.terms }
 
-abbrev pub call : List Decl → Group → Option Call
+abbrev pub call : List Decl → WrittenAtom → Option Call
 call net g = option_map (λ n. record { action = n; args = g.terms }) (number_of (action_names net) g.name)
 
-abbrev pub call_group : List Decl → Call → Group
-call_group net c = record { name = name_at (action_names net) c.action; terms = c.args }
+abbrev pub written_call : List Decl → Call → WrittenAtom
+written_call net c = record { name = name_at (action_names net) c.action; terms = c.args }
 
 -- ---- transitions
 
-abbrev pub in_clause : Move → Option Parts
-in_clause (move.In p) = Some p
-in_clause (move.Read g) = None
+abbrev pub in_clause : WrittenInput → Option WrittenArc
+in_clause (input.In p) = Some p
+in_clause (input.Read g) = None
 
-abbrev pub read_clause : Move → Option Group
-read_clause (move.In p) = None
-read_clause (move.Read g) = Some g
+abbrev pub read_clause : WrittenInput → Option WrittenAtom
+read_clause (input.In p) = None
+read_clause (input.Read g) = Some g
 
-abbrev pub is_in_clause : Move → Bool
-is_in_clause (move.In p) = true
-is_in_clause (move.Read g) = false
+abbrev pub is_in_clause : WrittenInput → Bool
+is_in_clause (input.In p) = true
+is_in_clause (input.Read g) = false
 
-abbrev pub ins_of : List Move → List Parts
-ins_of moves = filter_map in_clause moves
+abbrev pub ins_of : List WrittenInput → List WrittenArc
+ins_of inputs = filter_map in_clause inputs
 
-abbrev pub reads_of : List Move → List Group
-reads_of moves = filter_map read_clause moves
+abbrev pub reads_of : List WrittenInput → List WrittenAtom
+reads_of inputs = filter_map read_clause inputs
 
 -- the clauses in the order of the flags, of which true stands for an `in` clause
-abbrev pub mixed : List Bool → List Parts → List Group → List Move
+abbrev pub mixed : List Bool → List WrittenArc → List WrittenAtom → List WrittenInput
 mixed [] ins reads = []
 mixed (true ∷ flags) [] reads = mixed flags [] reads
-mixed (true ∷ flags) (p ∷ ins) reads = move.In p ∷ mixed flags ins reads
+mixed (true ∷ flags) (p ∷ ins) reads = input.In p ∷ mixed flags ins reads
 mixed (false ∷ flags) ins [] = mixed flags ins []
-mixed (false ∷ flags) ins (g ∷ reads) = move.Read g ∷ mixed flags ins reads
+mixed (false ∷ flags) ins (g ∷ reads) = input.Read g ∷ mixed flags ins reads
 
 abbrev pub typed_variable : Term → ColType → TypedVars
 typed_variable (term.Var x) type = (x, type) ∷ []
@@ -165,9 +165,9 @@ typed_occurrences (t ∷ terms) (type ∷ shape) = typed_variable t type ++ type
 abbrev pub columns_at : Shapes → Option ℕ → List ColType
 columns_at shapes n = option_map_or (columns shapes) n []
 
-abbrev pub move_occurrences : List Decl → Move → TypedVars
-move_occurrences net (move.In p) = flat_map (λ h. typed_occurrences h.terms (columns_at (place_shapes net) (control_number net p.place))) p.heaps
-move_occurrences net (move.Read g) = typed_occurrences g.terms (columns_at (place_shapes net) (view_number net g.name))
+abbrev pub input_occurrences : List Decl → WrittenInput → TypedVars
+input_occurrences net (input.In p) = flat_map (λ h. typed_occurrences h.terms (columns_at (place_shapes net) (control_number net p.place))) p.patterns
+input_occurrences net (input.Read g) = typed_occurrences g.terms (columns_at (place_shapes net) (view_number net g.name))
 
 -- each variable once, with the type of its first occurrence
 abbrev pub first_typed : TypedVars → TypedVars
@@ -175,14 +175,14 @@ first_typed [] = []
 first_typed (x ∷ xs) = x ∷ filter (λ y. not (var_eq x.0 y.0)) (first_typed xs)
 
 -- the bound variables: those of the `in` and `read` clauses
-abbrev pub bound_of : List Decl → List Move → TypedVars
-bound_of net moves = first_typed (flat_map (move_occurrences net) moves)
+abbrev pub bound_of : List Decl → List WrittenInput → TypedVars
+bound_of net inputs = first_typed (flat_map (input_occurrences net) inputs)
 
-abbrev pub transition : List Decl → Rule → Option Transition
+abbrev pub transition : List Decl → WrittenTransition → Option Transition
 transition net r =
-    each (arc net) (ins_of r.moves) >>= λ ins.
-    each (read net) (reads_of r.moves) >>= λ reads.
-    if_given (resolved_phrase []) r.guard >>= λ guard.
+    each (arc net) (ins_of r.inputs) >>= λ ins.
+    each (read net) (reads_of r.inputs) >>= λ reads.
+    if_given (resolved_formula []) r.guard >>= λ guard.
     if_given (call net) r.call >>= λ called.
     each (arc net) r.outs >>= λ outs.
     each (arc net) r.backs >>= λ backs.
@@ -190,26 +190,26 @@ transition net r =
       name = r.name;
       ins = ins;
       reads = reads;
-      mixture = map is_in_clause r.moves;
+      mixture = map is_in_clause r.inputs;
       guard = guard;
       asked = r.asked;
       fresh = r.fresh;
       call = called;
       outs = outs;
       backs = backs;
-      bound = bound_of net r.moves;
+      bound = bound_of net r.inputs;
     })
 
-abbrev pub rule : List Decl → Transition → Rule
-rule net t = record {
+abbrev pub written_transition : List Decl → Transition → WrittenTransition
+written_transition net t = record {
   name = t.name;
-  moves = mixed t.mixture (map (parts net) t.ins) (map (read_group net) t.reads);
+  inputs = mixed t.mixture (map (written_arc net) t.ins) (map (written_read net) t.reads);
   guard = option_map (named_formula []) t.guard;
   asked = t.asked;
   fresh = t.fresh;
-  call = option_map (call_group net) t.call;
-  outs = map (parts net) t.outs;
-  backs = map (parts net) t.backs;
+  call = option_map (written_call net) t.call;
+  outs = map (written_arc net) t.outs;
+  backs = map (written_arc net) t.backs;
 }
 
 -- ---- the other declarations
@@ -232,13 +232,13 @@ resolved_foreign net rel fields to to_fields =
     fields_of net m to_fields >>= λ to_numbers.
     Some (decl.Foreign n numbers m to_numbers)
 
-abbrev pub fact_pattern : List Name → Group → Option FactPattern
+abbrev pub fact_pattern : List Name → WrittenAtom → Option FactPattern
 fact_pattern names g = option_map (λ n. record { rel = n; terms = g.terms }) (number_of names g.name)
 
-abbrev pub pattern_group : List Decl → FactPattern → Group
-pattern_group net p = record { name = name_at (relation_names net) p.rel; terms = p.terms }
+abbrev pub written_fact : List Decl → FactPattern → WrittenAtom
+written_fact net p = record { name = name_at (relation_names net) p.rel; terms = p.terms }
 
-abbrev pub resolved_action : List Decl → Name → TypedVars → List Group → List Group → Option Decl
+abbrev pub resolved_action : List Decl → Name → TypedVars → List WrittenAtom → List WrittenAtom → Option Decl
 resolved_action net name params deletes adds =
     each (fact_pattern (relation_names net)) deletes >>= λ gone.
     each (fact_pattern (relation_names net)) adds >>= λ new.
@@ -250,8 +250,8 @@ abbrev pub resolved : List Decl → Written → Option Entry
 resolved net (written.Relation name fields) = Some (Part (decl.Relation name fields))
 resolved net (written.Key rel fields) = option_map Part (resolved_key net rel fields)
 resolved net (written.Foreign rel fields to to_fields) = option_map Part (resolved_foreign net rel fields to to_fields)
-resolved net (written.Always name body) = option_map (λ f. Part (decl.Always name f)) (resolved_phrase (relation_names net) body)
-resolved net (written.Query name vars body) = option_map (λ f. Part (decl.Query name vars f)) (resolved_phrase (relation_names net) body)
+resolved net (written.Always name body) = option_map (λ f. Part (decl.Always name f)) (resolved_formula (relation_names net) body)
+resolved net (written.Query name vars body) = option_map (λ f. Part (decl.Query name vars f)) (resolved_formula (relation_names net) body)
 resolved net (written.Action name params deletes adds) = option_map Part (resolved_action net name params deletes adds)
 resolved net (written.Control name shape) = Some (Part (decl.Site (place.Control name shape)))
 resolved net (written.View name query) = option_map (λ n. Part (decl.Site (place.View name n))) (number_of (query_names net) query)
@@ -272,9 +272,9 @@ named net (decl.Foreign rel fields to to_fields) =
     (name_at (relation_names net) to) (map (name_at (field_names net to)) to_fields)
 named net (decl.Always name body) = written.Always name (named_formula (relation_names net) body)
 named net (decl.Query name vars body) = written.Query name vars (named_formula (relation_names net) body)
-named net (decl.Act a) = written.Action a.name a.params (map (pattern_group net) a.deletes) (map (pattern_group net) a.adds)
+named net (decl.Act a) = written.Action a.name a.params (map (written_fact net) a.deletes) (map (written_fact net) a.adds)
 named net (decl.Site p) = named_place net p
-named net (decl.Trans t) = written.Transition (rule net t)
+named net (decl.Trans t) = written.Transition (written_transition net t)
 
 abbrev pub named_entry : List Decl → Entry → Written
 named_entry net (Part d) = named net d

@@ -13,16 +13,16 @@ use Rattle.dbn_sexp.specs.declared.sexp.Sexp.{Sexp}
 use Rattle.dbn_sexp.specs.declared.sexp.Item.{Item}
 use Rattle.dbn_sexp.specs.declared.sexp.Item.TheVariants as item
 use Rattle.dbn_sexp.specs.Printing.{on_line}
-use Rattle.dbn_net.specs.declared.written.Phrase.{Phrase}
-use Rattle.dbn_net.specs.declared.written.Phrase.TheOpen.{Phrase-F}
-use Rattle.dbn_net.specs.declared.written.Phrase.TheOpen as layer
-use Rattle.dbn_net.specs.declared.written.Phrase.TheFolds.{fold-Phrase}
-use Rattle.dbn_net.specs.declared.written.Group.{Group}
-use Rattle.dbn_net.specs.declared.written.Heap.{Heap}
-use Rattle.dbn_net.specs.declared.written.Parts.{Parts}
-use Rattle.dbn_net.specs.declared.written.Move.{Move}
-use Rattle.dbn_net.specs.declared.written.Move.TheVariants.{In, Read}
-use Rattle.dbn_net.specs.declared.written.Rule.{Rule}
+use Rattle.dbn_net.specs.declared.written.WrittenFormula.{WrittenFormula}
+use Rattle.dbn_net.specs.declared.written.WrittenFormula.TheOpen.{WrittenFormula-F}
+use Rattle.dbn_net.specs.declared.written.WrittenFormula.TheOpen as layer
+use Rattle.dbn_net.specs.declared.written.WrittenFormula.TheFolds.{fold-WrittenFormula}
+use Rattle.dbn_net.specs.declared.written.WrittenAtom.{WrittenAtom}
+use Rattle.dbn_net.specs.declared.written.WrittenPattern.{WrittenPattern}
+use Rattle.dbn_net.specs.declared.written.WrittenArc.{WrittenArc}
+use Rattle.dbn_net.specs.declared.written.WrittenInput.{WrittenInput}
+use Rattle.dbn_net.specs.declared.written.WrittenInput.TheVariants.{In, Read}
+use Rattle.dbn_net.specs.declared.written.WrittenTransition.{WrittenTransition}
 use Rattle.dbn_net.specs.declared.written.Written.{Written}
 use Rattle.dbn_net.specs.declared.written.Written.TheVariants.{Relation, Key, Foreign, Always, Query, Action, Control, View, Transition, Fact, Token}
 use Rattle.dbn_net.specs.Forms.{Name}
@@ -86,40 +86,40 @@ comparison_word cmp.Le = codes "<="
 comparison_word cmp.Gt = codes ">"
 comparison_word cmp.Ge = codes ">="
 
-abbrev pub phrase_step : Phrase-F Sexp → Sexp
-phrase_step (layer.Atom rel terms) = form rel (map term_sexp terms)
-phrase_step (layer.Test cmp left right) = form (comparison_word cmp) (term_sexp left ∷ term_sexp right ∷ [])
-phrase_step (layer.And parts) = form (codes "and") parts
-phrase_step (layer.Or parts) = form (codes "or") parts
-phrase_step (layer.Not part) = form (codes "not") (part ∷ [])
-phrase_step (layer.Implies left right) = form (codes "implies") (left ∷ right ∷ [])
-phrase_step (layer.Exists vars body) = form (codes "exists") (scope_sexp vars ∷ body ∷ [])
-phrase_step (layer.Forall vars body) = form (codes "forall") (scope_sexp vars ∷ body ∷ [])
+abbrev pub formula_step : WrittenFormula-F Sexp → Sexp
+formula_step (layer.Atom rel terms) = form rel (map term_sexp terms)
+formula_step (layer.Test cmp left right) = form (comparison_word cmp) (term_sexp left ∷ term_sexp right ∷ [])
+formula_step (layer.And parts) = form (codes "and") parts
+formula_step (layer.Or parts) = form (codes "or") parts
+formula_step (layer.Not part) = form (codes "not") (part ∷ [])
+formula_step (layer.Implies left right) = form (codes "implies") (left ∷ right ∷ [])
+formula_step (layer.Exists vars body) = form (codes "exists") (scope_sexp vars ∷ body ∷ [])
+formula_step (layer.Forall vars body) = form (codes "forall") (scope_sexp vars ∷ body ∷ [])
 
-unfoldable pub phrase_sexp : Phrase → Sexp
-phrase_sexp p = fold-Phrase Sexp phrase_step p
+unfoldable pub formula_sexp : WrittenFormula → Sexp
+formula_sexp p = fold-WrittenFormula Sexp formula_step p
 
 -- ---- clauses
 
-abbrev pub group_parts : Group → List Sexp
-group_parts g = word g.name ∷ map term_sexp g.terms
+abbrev pub written_atom_parts : WrittenAtom → List Sexp
+written_atom_parts g = word g.name ∷ map term_sexp g.terms
 
-abbrev pub group_sexp : Group → Sexp
-group_sexp g = list (group_parts g)
+abbrev pub written_atom_sexp : WrittenAtom → Sexp
+written_atom_sexp g = list (written_atom_parts g)
 
-abbrev pub heap_sexp : Heap → Sexp
-heap_sexp h = list (constant (value.Int h.many) ∷ map term_sexp h.terms)
+abbrev pub written_pattern_sexp : WrittenPattern → Sexp
+written_pattern_sexp h = list (constant (value.Int h.many) ∷ map term_sexp h.terms)
 
-abbrev pub heap_parts : Parts → List Sexp
-heap_parts p = word p.place ∷ map heap_sexp p.heaps
+abbrev pub written_arc_parts : WrittenArc → List Sexp
+written_arc_parts p = word p.place ∷ map written_pattern_sexp p.patterns
 
-abbrev pub move_sexp : Move → Sexp
-move_sexp (In p) = form (codes "in") (heap_parts p)
-move_sexp (Read g) = form (codes "read") (group_parts g)
+abbrev pub input_sexp : WrittenInput → Sexp
+input_sexp (In p) = form (codes "in") (written_arc_parts p)
+input_sexp (Read g) = form (codes "read") (written_atom_parts g)
 
-abbrev pub guard_sexps : Option Phrase → List Sexp
+abbrev pub guard_sexps : Option WrittenFormula → List Sexp
 guard_sexps None = []
-guard_sexps (Some p) = form (codes "guard") (phrase_sexp p ∷ []) ∷ []
+guard_sexps (Some p) = form (codes "guard") (formula_sexp p ∷ []) ∷ []
 
 abbrev pub ask_sexps : List (Var × ColType) → List Sexp
 ask_sexps [] = []
@@ -129,21 +129,21 @@ abbrev pub fresh_sexps : List Var → List Sexp
 fresh_sexps [] = []
 fresh_sexps (x ∷ vars) = form (codes "fresh") (map variable_sexp (x ∷ vars)) ∷ []
 
-abbrev pub call_sexps : Option Group → List Sexp
+abbrev pub call_sexps : Option WrittenAtom → List Sexp
 call_sexps None = []
-call_sexps (Some g) = form (codes "do") (group_parts g) ∷ []
+call_sexps (Some g) = form (codes "do") (written_atom_parts g) ∷ []
 
 -- the name and the clauses
-abbrev pub rule_parts : Rule → List Sexp
-rule_parts r =
+abbrev pub written_transition_parts : WrittenTransition → List Sexp
+written_transition_parts r =
     word r.name
-    ∷ map move_sexp r.moves
+    ∷ map input_sexp r.inputs
     ++ guard_sexps r.guard
     ++ ask_sexps r.asked
     ++ fresh_sexps r.fresh
     ++ call_sexps r.call
-    ++ map (λ p. form (codes "out") (heap_parts p)) r.outs
-    ++ map (λ p. form (codes "back") (heap_parts p)) r.backs
+    ++ map (λ p. form (codes "out") (written_arc_parts p)) r.outs
+    ++ map (λ p. form (codes "back") (written_arc_parts p)) r.backs
 
 -- ---- declarations
 
@@ -151,13 +151,13 @@ abbrev pub sexp_of : Written → Sexp
 sexp_of (Relation name fields) = form (codes "relation") (word name ∷ map typed_sexp fields)
 sexp_of (Key rel fields) = form (codes "key") (word rel ∷ map word fields)
 sexp_of (Foreign rel fields to to_fields) = form (codes "foreign") (word rel ∷ names_sexp fields ∷ word to ∷ names_sexp to_fields ∷ [])
-sexp_of (Always name body) = form (codes "always") (word name ∷ phrase_sexp body ∷ [])
-sexp_of (Query name vars body) = form (codes "query") (word name ∷ scope_sexp vars ∷ phrase_sexp body ∷ [])
+sexp_of (Always name body) = form (codes "always") (word name ∷ formula_sexp body ∷ [])
+sexp_of (Query name vars body) = form (codes "query") (word name ∷ scope_sexp vars ∷ formula_sexp body ∷ [])
 sexp_of (Action name params deletes adds) =
     form (codes "action")
-    (word name ∷ scope_sexp params ∷ form (codes "delete") (map group_sexp deletes) ∷ form (codes "add") (map group_sexp adds) ∷ [])
+    (word name ∷ scope_sexp params ∷ form (codes "delete") (map written_atom_sexp deletes) ∷ form (codes "add") (map written_atom_sexp adds) ∷ [])
 sexp_of (Control name shape) = form (codes "place") (word name ∷ map type_sexp shape)
 sexp_of (View name query) = form (codes "view") (word name ∷ word query ∷ [])
-sexp_of (Transition r) = form (codes "transition") (rule_parts r)
+sexp_of (Transition r) = form (codes "transition") (written_transition_parts r)
 sexp_of (Fact rel row) = form (codes "fact") (word rel ∷ map constant row)
 sexp_of (Token place many row) = form (codes "token") (word place ∷ constant (value.Int many) ∷ map constant row)

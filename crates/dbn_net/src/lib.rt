@@ -26,6 +26,7 @@ pub use snapshot::Snapshot;
 pub use violation::{Label, Named, Violations};
 pub use want::{Want, Wants};
 pub use written::{
-    Clause, Group, Groups, Heap, Heaps, Move, Moves, Names, Parts, PartsList, Phrase, Phrases,
-    Rule, Written,
+    Names, Written, WrittenArc, WrittenArcs, WrittenAtom, WrittenAtoms, WrittenClause,
+    WrittenFormula, WrittenFormulas, WrittenInput, WrittenInputs, WrittenPattern, WrittenPatterns,
+    WrittenTransition,
 };

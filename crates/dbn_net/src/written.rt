@@ -8,7 +8,7 @@ pub type Names = Items<Name>;
 
 /// A formula with names of relations.
 #[derive(Debug, Drop)]
-pub enum Phrase {
+pub enum WrittenFormula {
     /// `(R t..)`
     Atom {
         rel: Name,
@@ -21,98 +21,98 @@ pub enum Phrase {
         right: Term,
     },
     /// `(and formula..)`
-    And(Phrases),
+    And(WrittenFormulas),
     /// `(or formula..)`
-    Or(Phrases),
+    Or(WrittenFormulas),
     /// `(not formula)`
-    Not(Boxed<Phrase>),
+    Not(Boxed<WrittenFormula>),
     /// `(implies formula formula)`
-    Implies(Boxed<Phrase>, Boxed<Phrase>),
+    Implies(Boxed<WrittenFormula>, Boxed<WrittenFormula>),
     /// `(exists ((x type)..+) formula)`
     Exists {
         vars: TypedVars,
-        body: Boxed<Phrase>,
+        body: Boxed<WrittenFormula>,
     },
     /// `(forall ((x type)..+) formula)`
     Forall {
         vars: TypedVars,
-        body: Boxed<Phrase>,
+        body: Boxed<WrittenFormula>,
     },
 }
 
 /// A list of formulas.
-pub type Phrases = Items<Phrase>;
+pub type WrittenFormulas = Items<WrittenFormula>;
 
 /// A name with terms: a fact `(R t..)`, or the parts of `(read V t..)` and `(do a t..)`.
 #[derive(Debug, Drop)]
-pub struct Group {
+pub struct WrittenAtom {
     pub name: Name,
     pub terms: Terms,
 }
 
 /// A list of names with terms.
-pub type Groups = Items<Group>;
+pub type WrittenAtoms = Items<WrittenAtom>;
 
 /// `(n t..)`: a number with terms.
 #[derive(Debug, Drop)]
-pub struct Heap {
+pub struct WrittenPattern {
     pub many: i64,
     pub terms: Terms,
 }
 
 /// A list of numbers with terms.
-pub type Heaps = Items<Heap>;
+pub type WrittenPatterns = Items<WrittenPattern>;
 
 /// The parts of `(in P (n t..)..+)` and its kin: a place with numbers and terms.
 #[derive(Debug, Drop)]
-pub struct Parts {
+pub struct WrittenArc {
     pub place: Name,
-    pub heaps: Heaps,
+    pub patterns: WrittenPatterns,
 }
 
 /// A list of places with numbers and terms.
-pub type PartsList = Items<Parts>;
+pub type WrittenArcs = Items<WrittenArc>;
 
 /// An `in` or a `read` clause.
 #[derive(Debug, Drop)]
-pub enum Move {
-    In(Parts),
-    Read(Group),
+pub enum WrittenInput {
+    In(WrittenArc),
+    Read(WrittenAtom),
 }
 
 /// The `in` and `read` clauses of a transition, in their order.
-pub type Moves = Items<Move>;
+pub type WrittenInputs = Items<WrittenInput>;
 
 /// A transition. Lists without an item, and options without a value, stand for clauses that are not written.
 #[derive(Debug, Drop)]
-pub struct Rule {
+pub struct WrittenTransition {
     pub name: Name,
-    pub moves: Moves,
-    pub guard: Option<Phrase>,
+    pub inputs: WrittenInputs,
+    pub guard: Option<WrittenFormula>,
     pub asked: TypedVars,
     pub fresh: Vars,
-    pub call: Option<Group>,
-    pub outs: PartsList,
-    pub backs: PartsList,
+    pub call: Option<WrittenAtom>,
+    pub outs: WrittenArcs,
+    pub backs: WrittenArcs,
 }
 
 /// One clause of a transition.
 #[derive(Debug, Drop)]
-pub enum Clause {
+pub enum WrittenClause {
     /// `(in P (n t..)..+)` or `(read V t..)`
-    Moves(Move),
+    Inputs(WrittenInput),
     /// `(guard formula)`
-    Guards(Phrase),
+    Guards(WrittenFormula),
     /// `(ask (x type)..+)`
     Asks(TypedVars),
     /// `(fresh x..+)`
     Draws(Vars),
     /// `(do a t..)`
-    Calls(Group),
+    Calls(WrittenAtom),
     /// `(out P (n t..)..+)`
-    Puts(Parts),
+    Puts(WrittenArc),
     /// `(back P (n t..)..+)`
-    Returns(Parts),
+    Returns(WrittenArc),
 }
 
 /// A declaration of a net text, as it is written. Its variables have the mark 0.
@@ -138,20 +138,20 @@ pub enum Written {
     /// `(always c formula)`
     Always {
         name: Name,
-        body: Phrase,
+        body: WrittenFormula,
     },
     /// `(query q ((x type)..) formula)`
     Query {
         name: Name,
         vars: TypedVars,
-        body: Phrase,
+        body: WrittenFormula,
     },
     /// `(action a ((p type)..) (delete (R t..)..) (add (R t..)..))`
     Action {
         name: Name,
         params: TypedVars,
-        deletes: Groups,
-        adds: Groups,
+        deletes: WrittenAtoms,
+        adds: WrittenAtoms,
     },
     /// `(place P type..)`
     Control {
@@ -164,7 +164,7 @@ pub enum Written {
         query: Name,
     },
     /// `(transition T clause..)`
-    Transition(Rule),
+    Transition(WrittenTransition),
     /// `(fact R v..)`
     Fact {
         rel: Name,
