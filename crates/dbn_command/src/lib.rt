@@ -16,3 +16,6 @@ pub use laws::canonical_lines_are_read_again;
 pub use reading::read_line;
 pub use reply::{GroupLine, GroupLines, MemberWhy, Reply};
 pub use writing::reply_text;
+
+#[cfg(test)]
+mod tests;
