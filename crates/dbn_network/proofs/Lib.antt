@@ -1,0 +1,6 @@
+pub mod FeedLaws
+pub mod HoldLaws
+pub mod NetworkLaws
+pub mod PassLaws
+pub mod RunLaws
+pub mod ValueLaws

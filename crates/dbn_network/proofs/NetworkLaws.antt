@@ -1,0 +1,107 @@
+-- What the calls of a network say, by its fields.
+use Rattle.std.proofs.Common.{◌≡◌, ◌<◌, ◌≤◌, ◌+◌, ℕ, zero, suc, ◌⊎◌, inl, inr, ⊎_elim, Bool, true, false, List, [], ◌∷◌, ◌++◌, refl, ap, sym, ◌∙◌, subst, length, get_or, map, arith}
+use Rattle.std.specs.Prelude.{slice_set, IsTrue}
+use Rattle.std.specs.declared.cmp.Ordering.{Ordering}
+use Rattle.std.specs.Cmp.{IsTotalOrder}
+use Rattle.std.specs.Cmp.Lexicographic.{slice_cmp}
+use Rattle.std.specs.FinMap.{IsAntisymmetric}
+use Rattle.std.specs.List.Sorted.{IsStrictlySortedBy}
+use Rattle.std.proofs.lemmas.List.{length-map}
+use Rattle.std.proofs.Math.ListN as listed
+use Rattle.dbn_value.specs.declared.value.ColType.{ColType}
+use Rattle.dbn_value.specs.Shape.{HasShape}
+use Rattle.dbn_nodes.specs.declared.node.Node.{Node}
+use Rattle.dbn_nodes.specs.declared.event.Event.{Event}
+use Rattle.dbn_nodes.specs.Changes.{row_in, Leads}
+use Rattle.dbn_nodes.specs.Stands.{IsPlain}
+use Rattle.dbn_instance.specs.Facts.{changed, Fits as FitsNow}
+use Rattle.dbn_network.specs.declared.held.Held.{Held}
+use Rattle.dbn_network.specs.declared.input.Input.{Input}
+use Rattle.dbn_network.specs.declared.input.Input.TheVariants as input
+use Rattle.dbn_network.specs.Inputs.{left_in, right_in}
+use Rattle.dbn_network.specs.Values.{rows_at, values, val}
+use Rattle.dbn_network.specs.States.{State, width_at, feed_widths, IsThere, with_feeds, change_at}
+use Rattle.dbn_network.specs.Passes.{Alike, Passed}
+use Rattle.dbn_network.specs.Holding.{nodes_of, held_rows, feeds_of, AreEarlier, IsNetwork}
+use Rattle.dbn_network.proofs.PassLaws.{alike_nodes}
+use Rattle.dbn_network.proofs.FeedLaws.{Table, after, feed_sorted, fits_leads, Noted, noted}
+use Rattle.dbn_network.proofs.HoldLaws.{count_nodes, node_at, after_sorted, network_after}
+
+there_count : (a b i : ℕ) (x : Input) → a ≡ b → IsThere a i x → IsThere b i x
+there_count a b i x e there = subst (λ n. IsThere n i x) e there
+
+module _ {C : Type 0} {R : C → C → Ordering} where
+  feeds_count : (shapes : List (List ColType)) (states : List (Held C)) (tables : List (Table C)) → IsNetwork R shapes states tables → length (feed_widths shapes) ≡ length tables
+  feeds_count shapes states tables net = length-map shapes length ∙ sym net.size
+
+  -- the inputs of the nodes come before them
+  pub earlier_of : (shapes : List (List ColType)) (states : List (Held C)) (tables : List (Table C)) → IsNetwork R shapes states tables → AreEarlier (length tables) states
+  earlier_of shapes states tables net i d h =
+      let fits = net.placed i d h in
+      let same = feeds_count shapes states tables net in
+      (there_count (length (feed_widths shapes)) (length tables) i (left_in (get_or states i d).state.node) same fits.left, there_count (length (feed_widths shapes)) (length tables) i (right_in (get_or states i d).state.node) same fits.right)
+
+module _ {C : Type 0} where
+  -- what a network with these fields means
+  abbrev pub meant : Bool → List (List ColType) → List (List ColType) → List (Node C) → List (List (List C)) → State C
+  meant live rels shapes nodes feeds = record { live = live; rels = rels; shapes = shapes; nodes = nodes; feeds = feeds }
+
+  pub reads_before : (count : ℕ) (states : List (Held C)) → AreEarlier count states → (i : ℕ) (d : Held C) → i < length states → (k : ℕ)
+      → (left_in (get_or states i d).state.node ≡ input.Earlier k) ⊎ (right_in (get_or states i d).state.node ≡ input.Earlier k) → k < i
+  reads_before count states earlier i d within k reads = ⊎_elim
+      (λ l. subst (IsThere count i) l (earlier i d within).0)
+      (λ r. subst (IsThere count i) r (earlier i d within).1) reads
+
+  pub shape_wide : (type_of : C → ColType) (shapes : List (List ColType)) (feed : ℕ) (row : List C) → HasShape type_of row (get_or shapes feed []) → length row ≡ width_at (feed_widths shapes) feed
+  shape_wide type_of shapes feed row shape = sym (length-map row type_of) ∙ ap length shape ∙ sym (listed.get_or-map length shapes feed [])
+
+module _ {C : Type 0} {R : C → C → Ordering} (o : IsTotalOrder R) (exact : IsAntisymmetric R)
+    (live : Bool) (rels shapes : List (List ColType)) (states : List (Held C)) (tables : List (Table C)) (old : State C)
+    (view : meant live rels shapes (nodes_of states) (feeds_of R tables) ≡ old) (inv : IsTrue live → IsNetwork R shapes states tables) (is_live : IsTrue old.live) where
+  pub network_is : IsNetwork R shapes states tables
+  network_is = inv (subst IsTrue (sym (ap (λ (s : State C). s.live) view)) is_live)
+
+  pub are_earlier : AreEarlier (length tables) states
+  are_earlier = earlier_of shapes states tables network_is
+
+  pub many_nodes : length old.nodes ≡ length states
+  many_nodes = sym (ap (λ (s : State C). length s.nodes) view) ∙ count_nodes states
+
+  pub val_is : (node : ℕ) → rows_at (values R (feeds_of R tables) (nodes_of states)) node ≡ val R node old.nodes old.feeds
+  val_is node = ap (λ (s : State C). val R node s.nodes s.feeds) view
+
+  pub held_at : (P : Node C → Type 0) (node : ℕ) (d : Node C) → node < length old.nodes → P (get_or old.nodes node d) → (s : Held C) × P (get_or states node s).state.node
+  held_at P node d h holds =
+      let many : length old.nodes ≡ length (nodes_of states) = sym (ap (λ (s : State C). length s.nodes) view) in
+      let (s, is, e) = node_at states node d (omega arith) in
+      (s, subst (λ (x : Held C). P x.state.node) is (subst P e (subst (λ (x : State C). P (get_or x.nodes node d)) (sym view) holds)))
+
+  pub feed_there : (feed : ℕ) → feed < length old.feeds → feed < length tables
+  feed_there feed h =
+      let size : length old.feeds ≡ length tables = sym (ap (λ (s : State C). length s.feeds) view) ∙ length-map tables (held_rows R) in
+      omega arith
+
+  module _ (type_of : C → ColType) (feed : ℕ) (e : Event C) (range : feed < length old.feeds) (shape : HasShape type_of (row_in e) (get_or old.shapes feed [])) (fits : FitsNow R old.feeds (change_at feed e)) where
+    fits_is : FitsNow R (feeds_of R tables) (change_at feed e)
+    fits_is = subst (λ (s : State C). FitsNow R s.feeds (change_at feed e)) (sym view) fits
+
+    wide_is : length (row_in e) ≡ width_at (feed_widths shapes) feed
+    wide_is = shape_wide type_of shapes feed (row_in e) (subst (λ (s : State C). HasShape type_of (row_in e) (get_or s.shapes feed [])) (sym view) shape)
+
+    feed_noted : (table : Table C) → ((s z : List (List C)) → IsStrictlySortedBy (slice_cmp R) s → IsPlain R (get_or tables feed []) s → Leads R s (e ∷ []) z → IsPlain R table z) → Noted o exact tables feed e table
+    feed_noted table plain =
+        noted o exact tables feed e table
+        (plain (rows_at (feeds_of R tables) feed) (after R (rows_at (feeds_of R tables) feed) e) (feed_sorted o exact tables feed) (network_is.fed feed) (fits_leads o exact (feeds_of R tables) feed e fits_is))
+        (after_sorted o exact shapes states tables network_is feed e (feed_there feed range) wide_is fits_is)
+
+    pub applied_network : (table : Table C) (new : List (Held C)) → ((s z : List (List C)) → IsStrictlySortedBy (slice_cmp R) s → IsPlain R (get_or tables feed []) s → Leads R s (e ∷ []) z → IsPlain R table z)
+        → Alike new states → Passed R states new feed e → IsNetwork R shapes new (slice_set tables feed table)
+    applied_network table new plain alike passed = network_after o exact shapes states tables network_is feed e (feed_there feed range) wide_is fits_is table new (feed_noted table plain) alike passed
+
+    pub applied_value : (table : Table C) (new : List (Held C)) → ((s z : List (List C)) → IsStrictlySortedBy (slice_cmp R) s → IsPlain R (get_or tables feed []) s → Leads R s (e ∷ []) z → IsPlain R table z)
+        → Alike new states → meant true rels shapes (nodes_of new) (feeds_of R (slice_set tables feed table)) ≡ with_feeds old (changed R old.feeds (change_at feed e))
+    applied_value table new plain alike =
+        ap (λ ns. meant true rels shapes ns (feeds_of R (slice_set tables feed table))) (alike_nodes new states alike)
+        ∙ ap (meant true rels shapes (nodes_of states)) (feed_noted table plain).feeds
+        ∙ ap (λ b. meant b rels shapes (nodes_of states) (changed R (feeds_of R tables) (change_at feed e))) (sym (ap (λ (s : State C). s.live) view ∙ is_live))
+        ∙ ap (λ (s : State C). with_feeds s (changed R s.feeds (change_at feed e))) view

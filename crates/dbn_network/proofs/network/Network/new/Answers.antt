@@ -1,0 +1,16 @@
+use Rattle.std.proofs.Common.{◌≡◌, ◌∙◌, ◌++◌, [], true, map, sym, ap, subst}
+use Rattle.std.proofs.lemmas.List.{map-append}
+use Rattle.dbn_network.specs.Holding.{feeds_of, IsNetwork}
+use Rattle.dbn_network.proofs.FeedLaws.{no_rows, no_nodes}
+use Rattle.dbn_network.proofs.NetworkLaws.{meant}
+use Rattle.dbn_network.proofs.network.Network.new.Goals as goal
+
+pub invariant_of-result : goal.invariant_of-result
+invariant_of-result g c =
+    let made = (rw (c.in_ok-push_tables.ensures, c.new-feeds.ensures.items, c.as_slice.ensures, c.as_slice-2.ensures) at c.in_ok-push_tables-2.ensures) ∙ sym (map-append (λ shape. []) c.args.rels c.args.places) in
+    λ live. rw c.new.ensures.items (subst (IsNetwork g.C.Ord.cmp (c.args.rels ++ c.args.places) []) (sym made) (no_nodes g.C.Ord.cmp (c.args.rels ++ c.args.places)))
+
+pub returns : goal.returns
+returns g c =
+    let made = (rw (c.in_ok-push_tables.ensures, c.new-feeds.ensures.items, c.as_slice.ensures, c.as_slice-2.ensures) at c.in_ok-push_tables-2.ensures) ∙ sym (map-append (λ shape. []) c.args.rels c.args.places) in
+    rw c.new.ensures.items (ap (λ tables. meant true c.args.rels (c.args.rels ++ c.args.places) [] (feeds_of g.C.Ord.cmp tables)) made ∙ ap (meant true c.args.rels (c.args.rels ++ c.args.places) []) (no_rows g.C.Ord.cmp (c.args.rels ++ c.args.places)))

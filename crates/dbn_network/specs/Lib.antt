@@ -1,0 +1,5 @@
+pub mod Holding
+pub mod Inputs
+pub mod Passes
+pub mod States
+pub mod Values

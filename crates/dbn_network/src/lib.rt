@@ -1,0 +1,13 @@
+//! A network of kept tables: nodes in their order, whose rows follow the events of the feeds.
+#![tactic(auto)]
+
+mod feeds;
+mod held;
+mod input;
+mod network;
+mod pass;
+mod running;
+mod step;
+
+pub use input::Input;
+pub use network::Network;

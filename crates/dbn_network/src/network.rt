@@ -1,0 +1,94 @@
+ghost use Rattle.std.specs.Prelude.{◌≡◌, ◌<◌, ◌++◌, [], map, length, true, false, slice_index_or, IfOk, OnOk, OnErr, IsTrue};
+ghost use Rattle.dbn_value.specs.Shape.{HasShape};
+ghost use Rattle.dbn_nodes.specs.Changes.{row_in};
+ghost use Rattle.dbn_instance.specs.Facts.{Fits as FitsNow, changed};
+ghost use Rattle.dbn_network.specs.States.{with_feeds, change_at};
+
+use super::feeds::{note_at, push_tables};
+use super::held::Held;
+use super::pass::pass;
+use dbn_nodes::{Event, Keyed, Steps};
+use dbn_value::{Cell, Shapes};
+use std::alloc::{AllocError, Global};
+use std::marker::Model;
+use std::sync::ledger::Ledger;
+
+/// Nodes in their order over feeds, of which the relations come first and then the places. Its meaning is whether it is live, the
+/// shapes of the feeds, the nodes and the rows of the feeds; the rows of each node follow from these.
+#[derive(Drop)]
+pub struct Network<C: Cell> {
+    live: bool,
+    rels: Shapes,
+    places: Shapes,
+    states: Vec<Held<C>>,
+    feeds: Vec<Keyed<C>>,
+}
+
+impl<C: Cell> Model for Network<C> {
+    ghost use Rattle.std.specs.Prelude.{◌++◌, IsTrue};
+    ghost use Rattle.dbn_network.specs.States.{State};
+
+    ghost Value = { State C };
+
+    ghost use Rattle.dbn_network.specs.Holding.{nodes_of, feeds_of, IsNetwork};
+
+    ghost view = { λ n. record { live = n.live; rels = n.rels; shapes = n.rels ++ n.places; nodes = nodes_of n.states.items; feeds = feeds_of C.cmp n.feeds.items } };
+
+    ghost invariant = { λ n. IsTrue n.live → IsNetwork C.cmp (n.rels ++ n.places) n.states.items n.feeds.items };
+}
+
+impl<C: Cell> Network<C> {
+    /// The network without nodes over feeds of these shapes, those of the relations and then those of the places. An error is want
+    /// of memory.
+    pub fn new(alloc: Global, rels: Shapes, places: Shapes) -> Result<Network<C>, AllocError>
+        ensures { IfOk result (λ n. n ≡ record { live = true; rels = rels; shapes = rels ++ places; nodes = []; feeds = map (λ shape. []) (rels ++ places) }) }
+    {
+        let mut feeds = Vec::new(alloc);
+        push_tables(alloc, &mut feeds, rels.as_slice())?;
+        push_tables(alloc, &mut feeds, places.as_slice())?;
+        Ok(Network {
+            live: true,
+            rels,
+            places,
+            states: Vec::new(alloc),
+            feeds,
+        })
+    }
+
+    /// Whether the network is live: until want of memory. Every other call needs it.
+    pub fn is_live(&self) -> bool
+        ensures { result ≡ self.now.live }
+    {
+        self.live
+    }
+
+    /// The shapes of the relations.
+    pub fn rels(&self) -> &Shapes
+        ensures { result.now ≡ self.now.rels }
+    {
+        &self.rels
+    }
+
+    /// The event of a feed: the rows of all nodes follow it. An error is want of memory, or a count that would pass 2^64-1, and then
+    /// the network is not live.
+    pub fn apply<L: Ledger>(
+        &mut self,
+        alloc: Global,
+        feed: usize,
+        event: &Event<C>,
+        steps: &mut Steps<L>,
+    ) -> Result<(), AllocError>
+        requires live { IsTrue self.old.live }
+        requires range { feed < length self.old.feeds }
+        requires shape { HasShape C.type_of (row_in event.now) (slice_index_or self.old.shapes feed []) }
+        requires fits { FitsNow C.cmp self.old.feeds (change_at feed event.now) }
+        ensures ok { OnOk result (self.new ≡ with_feeds self.old (changed C.cmp self.old.feeds (change_at feed event.now))) }
+        ensures err { OnErr result (self.new.live ≡ false) }
+    {
+        self.live = false;
+        note_at(alloc, &mut self.feeds, feed, event, steps)?;
+        pass(alloc, &mut self.states, feed, event, steps)?;
+        self.live = true;
+        Ok(())
+    }
+}
