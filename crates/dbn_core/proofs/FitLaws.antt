@@ -35,7 +35,7 @@ use Rattle.dbn_net.specs.declared.want.Want.{Want}
 use Rattle.dbn_net.specs.Tables.{relation_in, relations, relation_names, action_in, actions, transitions, places, columns, types_of, relation_shapes, action_shapes, place_shape, place_shapes, query_shapes, shape_of, scope_of, is_control, has_place}
 use Rattle.dbn_net.specs.Values.{Marking}
 use Rattle.dbn_net.specs.Maybe.{each}
-use Rattle.dbn_net.specs.Naming.{number_of, fact_pattern, pattern_group, resolved_action}
+use Rattle.dbn_net.specs.Naming.{number_of, fact_pattern, written_fact, resolved_action}
 use Rattle.dbn_net.specs.Judging.{all_patterns, all_facts}
 use Rattle.dbn_net.specs.Wants.{bound_token, bound_tokens, wants}
 use Rattle.dbn_net.specs.Enabled.{bound_env}
@@ -73,9 +73,9 @@ known_more xs ys ps known =
 deletes_known : (front : List Decl) (a : Action) → Passes front (Act a) → facts_known front a.deletes ≡ true
 deletes_known front a p =
     let j = judged_there front (Act a) p in
-    let (d, is, made) = mapped_found Part (resolved_action front a.name a.params (map (pattern_group front) a.deletes) (map (pattern_group front) a.adds)) (Part (Act a)) j.is in
-    let (gone, b, rest) = first_found (each (fact_pattern (relation_names front)) (map (pattern_group front) a.deletes)) _ d is in
-    let (new, c, last) = first_found (each (fact_pattern (relation_names front)) (map (pattern_group front) a.adds)) _ d rest in
+    let (d, is, made) = mapped_found Part (resolved_action front a.name a.params (map (written_fact front) a.deletes) (map (written_fact front) a.adds)) (Part (Act a)) j.is in
+    let (gone, b, rest) = first_found (each (fact_pattern (relation_names front)) (map (written_fact front) a.deletes)) _ d is in
+    let (new, c, last) = first_found (each (fact_pattern (relation_names front)) (map (written_fact front) a.adds)) _ d rest in
     let whole : Action = record { name = a.name; params = a.params; deletes = gone; adds = new } in
     let same : gone ≡ a.deletes = ap (λ (b : Action). b.deletes) (act_is whole a (ap Part (some_is (Act whole) d last) ∙ made)) in
     subst (λ l. facts_known front l ≡ true) same
@@ -83,7 +83,7 @@ deletes_known front a p =
     (λ g q e.
     let (n, named, was) = mapped_found (λ k. record { rel = k; terms = g.terms }) (number_of (relation_names front) g.name) q e in
     ap (λ (x : FactPattern). nat_lt x.rel (length (relations front))) (sym was) ∙ below_names front n (number_within (relation_names front) g.name n named))
-    (map (pattern_group front) a.deletes) gone b)
+    (map (written_fact front) a.deletes) gone b)
 
 -- an action of the net, behind the declarations that stand before it
 action_stood : (net : List Decl) → WellFormed net → (n : ℕ) (a : Action) → slice_get (actions net) n ≡ Some a → Stood [] net (Act a)
