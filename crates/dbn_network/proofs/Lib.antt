@@ -3,4 +3,5 @@ pub mod HoldLaws
 pub mod NetworkLaws
 pub mod PassLaws
 pub mod RunLaws
+pub mod TableLaws
 pub mod ValueLaws

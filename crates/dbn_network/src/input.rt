@@ -1,5 +1,5 @@
 ghost use Rattle.std.specs.Prelude.{◌≡◌};
-ghost use Rattle.dbn_network.specs.Inputs.{left_in, right_in};
+ghost use Rattle.dbn_network.specs.Inputs.{left_in, right_in, needed_in};
 
 use dbn_nodes::Node;
 
@@ -51,5 +51,25 @@ pub(crate) fn right_input<C>(node: &Node<C>) -> Input
         Node::Project { from: _, cols: _ } => Input::Nothing,
         Node::Union { left: _, right } => Input::Earlier(*right),
         Node::Extend { from: _, with: _ } => Input::Nothing,
+    }
+}
+
+/// The input whose rows are needed to tell the node's own, where the node does not keep enough.
+pub(crate) fn needed_input<C>(node: &Node<C>) -> Input
+    ensures { result ≡ needed_in node.now }
+{
+    match node {
+        Node::Unit => Input::Nothing,
+        Node::Scan { feed } => Input::Feed(*feed),
+        Node::Select { from, tests: _ } => Input::Earlier(*from),
+        Node::Join {
+            left,
+            right: _,
+            on: _,
+        } => Input::Earlier(*left),
+        Node::Diff { left: _, right: _ } => Input::Nothing,
+        Node::Project { from: _, cols: _ } => Input::Nothing,
+        Node::Union { left: _, right: _ } => Input::Nothing,
+        Node::Extend { from, with: _ } => Input::Earlier(*from),
     }
 }

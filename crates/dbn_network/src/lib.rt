@@ -1,6 +1,7 @@
 //! A network of kept tables: nodes in their order, whose rows follow the events of the feeds.
 #![tactic(auto)]
 
+mod counting;
 mod feeds;
 mod held;
 mod input;
@@ -8,6 +9,7 @@ mod network;
 mod pass;
 mod running;
 mod step;
+mod tables;
 
 pub use input::Input;
 pub use network::Network;

@@ -2,16 +2,18 @@ ghost use Rattle.std.specs.Prelude.{◌≡◌, ◌<◌, ◌++◌, [], map, lengt
 ghost use Rattle.dbn_value.specs.Shape.{HasShape};
 ghost use Rattle.dbn_nodes.specs.Changes.{row_in};
 ghost use Rattle.dbn_instance.specs.Facts.{Fits as FitsNow, changed};
+ghost use Rattle.dbn_network.specs.Values.{val};
 ghost use Rattle.dbn_network.specs.States.{with_feeds, change_at};
 
+use super::counting::table_of_node;
 use super::feeds::{note_at, push_tables};
 use super::held::Held;
 use super::pass::pass;
 use dbn_nodes::{Event, Keyed, Steps};
-use dbn_value::{Cell, Shapes};
+use dbn_value::{Cell, RowsOf, Shapes};
 use std::alloc::{AllocError, Global};
-use std::marker::Model;
-use std::sync::ledger::Ledger;
+use std::marker::{Brand, Model};
+use std::sync::ledger::{Blank, Ledger};
 
 /// Nodes in their order over feeds, of which the relations come first and then the places. Its meaning is whether it is live, the
 /// shapes of the feeds, the nodes and the rows of the feeds; the rows of each node follow from these.
@@ -90,5 +92,21 @@ impl<C: Cell> Network<C> {
         pass(alloc, &mut self.states, feed, event, steps)?;
         self.live = true;
         Ok(())
+    }
+
+    /// The rows of the node with this number, in their order. An error is want of memory.
+    pub fn table(&self, alloc: Global, node: usize) -> Result<RowsOf<C>, AllocError>
+        requires live { IsTrue self.now.live }
+        requires range { node < length self.now.nodes }
+        ensures { IfOk result (λ rows. rows ≡ val C.cmp node self.now.nodes self.now.feeds) }
+    {
+        let rows = table_of_node::<C, Brand>(
+            alloc,
+            self.states.as_slice(),
+            self.feeds.as_slice(),
+            node,
+            Blank::new(1),
+        )?;
+        Ok(rows)
     }
 }

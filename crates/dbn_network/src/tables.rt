@@ -1,0 +1,61 @@
+ghost use Rattle.std.specs.Prelude.{◌≡◌, ◌<◌, List, [], length, slice_index_or, IfOk};
+ghost use Rattle.std.specs.Cmp.Lexicographic.{slice_cmp};
+ghost use Rattle.dbn_value.specs.declared.value.ColType.{ColType as Column};
+ghost use Rattle.dbn_nodes.specs.Tables.{AreRowsOf};
+ghost use Rattle.dbn_network.specs.Values.{rows_at, values};
+ghost use Rattle.dbn_network.specs.Holding.{nodes_of, feeds_of, AreEarlier, IsNetwork};
+
+use super::held::Held;
+use super::input::{Input, needed_input};
+use dbn_nodes::{Keyed, Steps};
+use dbn_value::{Cell, Row, RowsOf};
+use sqlite_items::Items;
+use std::alloc::{AllocError, Global};
+use std::sync::ledger::Ledger;
+
+/// The rows of a feed.
+pub(crate) fn feed_rows<C: Cell, L: Ledger>(
+    alloc: Global,
+    tables: &[Keyed<C>],
+    feed: usize,
+    steps: &mut Steps<L>,
+) -> Result<RowsOf<C>, AllocError>
+    requires { feed < length tables.now }
+    ensures { IfOk result (λ rows. AreRowsOf (slice_cmp C.cmp) (slice_index_or tables.now feed []) [] rows) }
+{
+    let key = Row::from_vec(Vec::new(alloc));
+    let rows = tables[feed].rows_of(alloc, &key, steps)?;
+    Ok(rows)
+}
+
+/// The rows of a node, by recursion on the input that it needs.
+pub(crate) fn rows_in<C: Cell, L: Ledger>(
+    alloc: Global,
+    states: &[Held<C>],
+    tables: &[Keyed<C>],
+    node: usize,
+    steps: &mut Steps<L>,
+) -> Result<RowsOf<C>, AllocError>
+    requires range { node < length states.now }
+    requires earlier { AreEarlier (length tables.now) states.now }
+    ensures { IfOk result (λ rows. (shapes : List (List Column)) → IsNetwork C.cmp shapes states.now tables.now → rows ≡ rows_at (values C.cmp (feeds_of C.cmp tables.now) (nodes_of states.now)) node) }
+{
+    let held = &states[node];
+    match needed_input(&held.state.node) {
+        Input::Nothing => {
+            let lefts: RowsOf<C> = Items::new(alloc);
+            let rows = held.state.rows(alloc, lefts.as_slice(), steps)?;
+            return Ok(rows);
+        }
+        Input::Feed(feed) => {
+            let lefts = feed_rows(alloc, tables, feed, steps)?;
+            let rows = held.state.rows(alloc, lefts.as_slice(), steps)?;
+            return Ok(rows);
+        }
+        Input::Earlier(i) => {
+            let lefts = rows_in(alloc, states, tables, i, steps)?;
+            let rows = held.state.rows(alloc, lefts.as_slice(), steps)?;
+            return Ok(rows);
+        }
+    }
+}
