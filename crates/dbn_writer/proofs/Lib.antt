@@ -1,0 +1,9 @@
+pub mod Lists
+pub mod NameLaws
+pub mod FormulaLaws
+pub mod KnownLaws
+pub mod NamedMore
+pub mod TransitionLaws
+pub mod WritingLaws
+pub mod SameText
+pub mod SmallNets

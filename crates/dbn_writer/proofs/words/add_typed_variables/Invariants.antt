@@ -1,0 +1,6 @@
+use Rattle.std.proofs.Common.{◌≡◌, ◌++◌, map, take}
+use Rattle.dbn_net.specs.Printing.{typed_variable_sexp}
+use Rattle.dbn_writer.proofs.words.add_typed_variables.Given as goal
+
+abbrev pub invariant-loop-var : goal.invariant-loop-var
+invariant-loop-var l = l.out ≡ l.fn.out ++ map typed_variable_sexp (take l.var-index l.vars)
