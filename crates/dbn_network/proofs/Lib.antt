@@ -1,3 +1,4 @@
+pub mod AddLaws
 pub mod FeedLaws
 pub mod HoldLaws
 pub mod NetworkLaws

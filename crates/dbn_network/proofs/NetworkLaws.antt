@@ -20,26 +20,13 @@ use Rattle.dbn_network.specs.declared.input.Input.{Input}
 use Rattle.dbn_network.specs.declared.input.Input.TheVariants as input
 use Rattle.dbn_network.specs.Inputs.{left_in, right_in}
 use Rattle.dbn_network.specs.Values.{rows_at, values, val}
-use Rattle.dbn_network.specs.States.{State, width_at, feed_widths, IsThere, with_feeds, change_at}
-use Rattle.dbn_network.specs.Passes.{Alike, Passed}
-use Rattle.dbn_network.specs.Holding.{nodes_of, held_rows, feeds_of, AreEarlier, IsNetwork}
+use Rattle.dbn_network.specs.States.{State, width_at, feed_widths, widths, IsThere, FitsAt, Fits, with_node, with_feeds, change_at}
+use Rattle.dbn_network.specs.Passes.{Alike, Passed, StandsAt}
+use Rattle.dbn_network.specs.Holding.{nodes_of, held_rows, feeds_of, AreEarlier, Marked, IsNetwork}
 use Rattle.dbn_network.proofs.PassLaws.{alike_nodes}
 use Rattle.dbn_network.proofs.FeedLaws.{Table, after, feed_sorted, fits_leads, Noted, noted}
 use Rattle.dbn_network.proofs.HoldLaws.{count_nodes, node_at, after_sorted, network_after}
-
-there_count : (a b i : ℕ) (x : Input) → a ≡ b → IsThere a i x → IsThere b i x
-there_count a b i x e there = subst (λ n. IsThere n i x) e there
-
-module _ {C : Type 0} {R : C → C → Ordering} where
-  feeds_count : (shapes : List (List ColType)) (states : List (Held C)) (tables : List (Table C)) → IsNetwork R shapes states tables → length (feed_widths shapes) ≡ length tables
-  feeds_count shapes states tables net = length-map shapes length ∙ sym net.size
-
-  -- the inputs of the nodes come before them
-  pub earlier_of : (shapes : List (List ColType)) (states : List (Held C)) (tables : List (Table C)) → IsNetwork R shapes states tables → AreEarlier (length tables) states
-  earlier_of shapes states tables net i d h =
-      let fits = net.placed i d h in
-      let same = feeds_count shapes states tables net in
-      (there_count (length (feed_widths shapes)) (length tables) i (left_in (get_or states i d).state.node) same fits.left, there_count (length (feed_widths shapes)) (length tables) i (right_in (get_or states i d).state.node) same fits.right)
+use Rattle.dbn_network.proofs.AddLaws.{earlier_of, fits_there, nodes_after, network_more}
 
 module _ {C : Type 0} where
   -- what a network with these fields means
@@ -105,3 +92,23 @@ module _ {C : Type 0} {R : C → C → Ordering} (o : IsTotalOrder R) (exact : I
         ∙ ap (meant true rels shapes (nodes_of states)) (feed_noted table plain).feeds
         ∙ ap (λ b. meant b rels shapes (nodes_of states) (changed R (feeds_of R tables) (change_at feed e))) (sym (ap (λ (s : State C). s.live) view ∙ is_live))
         ∙ ap (λ (s : State C). with_feeds s (changed R s.feeds (change_at feed e))) view
+
+  module _ (n : Node C) (fits : Fits old n) where
+    pub fits_now : FitsAt (feed_widths shapes) (widths (feed_widths shapes) (nodes_of states)) (length states) n
+    fits_now = subst (λ k. FitsAt (feed_widths shapes) (widths (feed_widths shapes) (nodes_of states)) k n) (count_nodes states) (subst (λ (s : State C). Fits s n) (sym view) fits)
+
+    pub inputs_there : IsThere (length tables) (length states) (left_in n) × IsThere (length tables) (length states) (right_in n)
+    inputs_there = fits_there shapes states tables n network_is fits_now
+
+    pub added_network : (marked : List (Held C)) (h : Held C) → h.state.node ≡ n → Marked states marked h.state.node
+        → StandsAt R h (feeds_of R tables) (values R (feeds_of R tables) (nodes_of states)) → IsNetwork R shapes (marked ++ h ∷ []) tables
+    added_network marked h is m stands =
+        network_more shapes states tables network_is marked h m (subst (FitsAt (feed_widths shapes) (widths (feed_widths shapes) (nodes_of states)) (length states)) (sym is) fits_now) stands
+
+    pub added_value : (marked : List (Held C)) (h : Held C) → h.state.node ≡ n → Marked states marked h.state.node
+        → StandsAt R h (feeds_of R tables) (values R (feeds_of R tables) (nodes_of states)) → meant true rels shapes (nodes_of (marked ++ h ∷ [])) (feeds_of R tables) ≡ with_node old n
+    added_value marked h is m stands =
+        ap (λ ns. meant true rels shapes ns (feeds_of R tables)) (nodes_after shapes states tables network_is marked h m (subst (FitsAt (feed_widths shapes) (widths (feed_widths shapes) (nodes_of states)) (length states)) (sym is) fits_now) stands)
+        ∙ ap (λ k. meant true rels shapes (nodes_of states ++ k ∷ []) (feeds_of R tables)) is
+        ∙ ap (λ b. meant b rels shapes (nodes_of states ++ n ∷ []) (feeds_of R tables)) (sym (ap (λ (s : State C). s.live) view ∙ is_live))
+        ∙ ap (λ (s : State C). with_node s n) view

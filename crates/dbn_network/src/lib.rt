@@ -1,6 +1,7 @@
 //! A network of kept tables: nodes in their order, whose rows follow the events of the feeds.
 #![tactic(auto)]
 
+mod adding;
 mod counting;
 mod feeds;
 mod held;

@@ -3,13 +3,15 @@ ghost use Rattle.dbn_value.specs.Shape.{HasShape};
 ghost use Rattle.dbn_nodes.specs.Changes.{row_in};
 ghost use Rattle.dbn_instance.specs.Facts.{Fits as FitsNow, changed};
 ghost use Rattle.dbn_network.specs.Values.{val};
-ghost use Rattle.dbn_network.specs.States.{with_feeds, change_at};
+ghost use Rattle.dbn_network.specs.States.{Fits, with_node, with_feeds, change_at};
 
-use super::counting::table_of_node;
+use super::adding::mark_read;
+use super::counting::{held_of_node, table_of_node};
 use super::feeds::{note_at, push_tables};
 use super::held::Held;
+use super::input::{left_input, right_input};
 use super::pass::pass;
-use dbn_nodes::{Event, Keyed, Steps};
+use dbn_nodes::{Event, Keyed, Node, Steps};
 use dbn_value::{Cell, RowsOf, Shapes};
 use std::alloc::{AllocError, Global};
 use std::marker::{Brand, Model};
@@ -92,6 +94,31 @@ impl<C: Cell> Network<C> {
         pass(alloc, &mut self.states, feed, event, steps)?;
         self.live = true;
         Ok(())
+    }
+
+    /// Adds a node behind the others and gives its number: its rows are those that its inputs give it. An error is want of memory,
+    /// and then the network is not live.
+    pub fn add(&mut self, alloc: Global, node: Node<C>) -> Result<usize, AllocError>
+        requires live { IsTrue self.old.live }
+        requires fits { Fits self.old node }
+        ensures number { IfOk result (λ i. i ≡ length self.old.nodes) }
+        ensures ok { OnOk result (self.new ≡ with_node self.old node) }
+        ensures err { OnErr result (self.new.live ≡ false) }
+    {
+        self.live = false;
+        let held = held_of_node::<C, Brand>(
+            alloc,
+            self.states.as_slice(),
+            self.feeds.as_slice(),
+            node,
+            Blank::new(1),
+        )?;
+        let number = self.states.len();
+        mark_read(&mut self.states, left_input(&held.state.node));
+        mark_read(&mut self.states, right_input(&held.state.node));
+        self.states.push(held)?;
+        self.live = true;
+        Ok(number)
     }
 
     /// The rows of the node with this number, in their order. An error is want of memory.
