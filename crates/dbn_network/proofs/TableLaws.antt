@@ -1,5 +1,5 @@
 -- The rows of a node, from what the network holds.
-use Rattle.std.proofs.Common.{◌≡◌, ◌<◌, ◌≤◌, ◌+◌, ℕ, zero, suc, ◌⊎◌, inl, inr, ⊎_elim, Bool, true, false, List, [], ◌∷◌, ◌++◌, refl, ap, sym, ◌∙◌, subst, length, get_or, map, arith}
+use Rattle.std.proofs.Common.{◌≡◌, ◌<◌, ◌≤◌, ◌+◌, ℕ, zero, suc, ◌⊎◌, inl, inr, ⊎_elim, Bool, true, false, List, [], ◌∷◌, ◌++◌, refl, ap, sym, ◌∙◌, subst, length, get_or, map, nat_lt, arith}
 use Rattle.std.specs.declared.cmp.Ordering.{Ordering}
 use Rattle.std.specs.Cmp.{IsTotalOrder}
 use Rattle.std.specs.Cmp.Lexicographic.{slice_cmp}
@@ -10,11 +10,12 @@ use Rattle.dbn_value.specs.declared.value.ColType.{ColType}
 use Rattle.dbn_value.proofs.AscendingLaws.{sorted_nil}
 use Rattle.dbn_nodes.specs.declared.node.Node.{Node}
 use Rattle.dbn_nodes.specs.declared.node.Node.TheVariants as node
-use Rattle.dbn_nodes.specs.Tables.{has, AreRowsOf}
+use Rattle.dbn_nodes.specs.Tables.{count_at, has, AreRowsOf}
 use Rattle.dbn_nodes.specs.Values.{value_of}
-use Rattle.dbn_nodes.specs.Stands.{Good}
-use Rattle.dbn_nodes.specs.Answering.{AreLefts, AreRowsAt}
+use Rattle.dbn_nodes.specs.Stands.{IsPlain, Good, Stands}
+use Rattle.dbn_nodes.specs.Answering.{AreLefts, AreRowsAt, IsLookedUp}
 use Rattle.dbn_nodes.proofs.AnswerLaws.{plain_rows}
+use Rattle.dbn_nodes.proofs.NodeLaws.{plain_has}
 use Rattle.dbn_network.specs.declared.held.Held.{Held}
 use Rattle.dbn_network.specs.declared.input.Input.{Input}
 use Rattle.dbn_network.specs.declared.input.Input.TheVariants as input
@@ -22,7 +23,8 @@ use Rattle.dbn_network.specs.Inputs.{left_in, right_in, needed_in}
 use Rattle.dbn_network.specs.Values.{rows_at, rows_from, value_in, values}
 use Rattle.dbn_network.specs.States.{width_at, width_from, feed_widths, widths, IsThere, FitsAt}
 use Rattle.dbn_network.specs.Passes.{IsWide, Proper, StandsAt}
-use Rattle.dbn_network.specs.Holding.{nodes_of, feeds_of, IsNetwork}
+use Rattle.dbn_network.specs.Holding.{nodes_of, feeds_of, AreEarlier, IsDirect, IsNetwork}
+use Rattle.dbn_network.proofs.PassLaws.{same_inside}
 use Rattle.dbn_network.proofs.RunLaws.{good_of}
 use Rattle.dbn_network.proofs.FeedLaws.{Table}
 use Rattle.dbn_network.proofs.HoldLaws.{feeds_good, rows_are, values_are}
@@ -47,6 +49,17 @@ module _ {C : Type 0} where
   needed_lefts (node.Project from cols) f v = tt
   needed_lefts (node.Union left right) f v = tt
   needed_lefts (node.Extend from with) f v = refl
+
+  -- a node that tells at once whether it has a row, and is no scan, looks the row up
+  pub direct_looked : (n : Node C) → IsDirect n → ((feed : ℕ) → n ≡ node.Scan feed → ⊥) → IsLookedUp n
+  direct_looked node.Unit direct none = tt
+  direct_looked (node.Scan feed) direct none = absurd (none feed refl)
+  direct_looked (node.Select from tests) direct none = direct
+  direct_looked (node.Join left right on) direct none = direct
+  direct_looked (node.Diff left right) direct none = tt
+  direct_looked (node.Project from cols) direct none = tt
+  direct_looked (node.Union left right) direct none = tt
+  direct_looked (node.Extend from with) direct none = direct
 
 module _ {C : Type 0} {R : C → C → Ordering} (o : IsTotalOrder R) (exact : IsAntisymmetric R) (shapes : List (List ColType)) (states : List (Held C)) (tables : List (Table C)) (net : IsNetwork R shapes states tables) where
   -- the rows of an input ascend and have its width
@@ -92,3 +105,22 @@ module _ {C : Type 0} {R : C → C → Ordering} (o : IsTotalOrder R) (exact : I
     pub node_rows_by : (x : Input) (lefts rows : List (List C)) → needed_in s.state.node ≡ x → AreRowsAt R s.state.node s.state.kept lefts rows → lefts ≡ rows_from (feeds_of R tables) (values R (feeds_of R tables) (nodes_of states)) x
         → rows ≡ rows_at (values R (feeds_of R tables) (nodes_of states)) i
     node_rows_by x lefts rows e are lefts_are = node_rows lefts rows are (lefts_are ∙ ap (rows_from (feeds_of R tables) (values R (feeds_of R tables) (nodes_of states))) (sym e))
+
+    -- what holds of the node's rows over all inputs that it stands for, holds of its value
+    pub node_answers : (P : List (List C) → Type 0) → ((ls rs : List (List C)) → Stands R s.state.node s.state.kept ls rs → P (value_of R s.state.node ls rs)) → P (rows_at (values R (feeds_of R tables) (nodes_of states)) i)
+    node_answers P of =
+        subst P (sym node_value)
+        (of (rows_from (feeds_of R tables) (values R (feeds_of R tables) (nodes_of states)) (left_in s.state.node)) (rows_from (feeds_of R tables) (values R (feeds_of R tables) (nodes_of states)) (right_in s.state.node)) node_stands)
+
+    module _ (feed : ℕ) (scan : s.state.node ≡ node.Scan feed) where
+      scan_value : rows_at (values R (feeds_of R tables) (nodes_of states)) i ≡ rows_at (feeds_of R tables) feed
+      scan_value = node_value ∙ ap (value_in R (feeds_of R tables) (values R (feeds_of R tables) (nodes_of states))) scan
+
+      scan_there : AreEarlier (length tables) states → feed < length tables
+      scan_there earlier = subst (λ n. IsThere (length tables) i (left_in n)) scan (subst (λ x. IsThere (length tables) i (left_in x.state.node)) (sym is) (earlier i s within).0)
+
+      -- the table of the feed tells whether a scan has the row
+      pub scan_has : AreEarlier (length tables) states → (table : Table C) (row : List C) → table ≡ get_or tables feed table → nat_lt 0 (count_at (slice_cmp R) table [] row) ≡ has (slice_cmp R) (rows_at (values R (feeds_of R tables) (nodes_of states)) i) row
+      scan_has earlier table row at =
+          plain_has o exact table (rows_at (feeds_of R tables) feed) row (subst (λ t. IsPlain R t (rows_at (feeds_of R tables) feed)) (sym (at ∙ same_inside tables feed table [] (scan_there earlier))) (net.fed feed))
+          ∙ ap (λ rows. has (slice_cmp R) rows row) (sym scan_value)

@@ -1,18 +1,23 @@
-ghost use Rattle.std.specs.Prelude.{◌≡◌, ◌<◌, ◌++◌, [], map, length, true, false, slice_index_or, IfOk, OnOk, OnErr, IsTrue};
+ghost use Rattle.std.specs.Prelude.{◌≡◌, ◌<◌, ◌++◌, ◌↔◌, [], map, length, true, false, slice_index_or, IfOk, OnOk, OnErr, IsOk, IsTrue};
+ghost use Rattle.std.specs.Cmp.Lexicographic.{slice_cmp};
 ghost use Rattle.dbn_value.specs.Shape.{HasShape};
 ghost use Rattle.dbn_nodes.specs.Changes.{row_in};
 ghost use Rattle.dbn_instance.specs.Facts.{Fits as FitsNow, changed};
+ghost use Rattle.dbn_nodes.specs.declared.node.Node.{Node as NodeOf};
+ghost use Rattle.dbn_nodes.specs.Tables.{has};
+ghost use Rattle.dbn_nodes.specs.Answering.{IsCounted};
 ghost use Rattle.dbn_network.specs.Values.{val};
 ghost use Rattle.dbn_network.specs.States.{Fits, with_node, with_feeds, change_at};
+ghost use Rattle.dbn_network.specs.Holding.{IsDirect};
 
 use super::adding::mark_read;
-use super::counting::{held_of_node, table_of_node};
+use super::counting::{has_none, has_row, held_of_node, table_of_node};
 use super::feeds::{note_at, push_tables};
 use super::held::Held;
 use super::input::{left_input, right_input};
 use super::pass::pass;
 use dbn_nodes::{Event, Keyed, Node, Steps};
-use dbn_value::{Cell, RowsOf, Shapes};
+use dbn_value::{Cell, Row, RowsOf, Shapes};
 use std::alloc::{AllocError, Global};
 use std::marker::{Brand, Model};
 use std::sync::ledger::{Blank, Ledger};
@@ -135,5 +140,39 @@ impl<C: Cell> Network<C> {
             Blank::new(1),
         )?;
         Ok(rows)
+    }
+
+    /// Whether the node with this number has the row. An error is want of memory; a unit, a scan, a difference, a projection and a
+    /// union take none.
+    pub fn has(&self, alloc: Global, node: usize, row: &Row<C>) -> Result<bool, AllocError>
+        requires live { IsTrue self.now.live }
+        requires range { node < length self.now.nodes }
+        ensures value { IfOk result (λ found. found ≡ has (slice_cmp C.cmp) (val C.cmp node self.now.nodes self.now.feeds) row.now) }
+        ensures sure { (d : NodeOf C) → IsDirect (slice_index_or self.now.nodes node d) → IsOk result }
+    {
+        has_row::<C, Brand>(
+            alloc,
+            self.states.as_slice(),
+            self.feeds.as_slice(),
+            node,
+            row,
+            Blank::new(1),
+        )
+    }
+
+    /// Whether the node with this number has no rows. An error is want of memory; a projection and a union take none.
+    pub fn is_empty(&self, alloc: Global, node: usize) -> Result<bool, AllocError>
+        requires live { IsTrue self.now.live }
+        requires range { node < length self.now.nodes }
+        ensures value { IfOk result (λ empty. IsTrue empty ↔ (val C.cmp node self.now.nodes self.now.feeds ≡ [])) }
+        ensures sure { (d : NodeOf C) → IsCounted (slice_index_or self.now.nodes node d) → IsOk result }
+    {
+        has_none::<C, Brand>(
+            alloc,
+            self.states.as_slice(),
+            self.feeds.as_slice(),
+            node,
+            Blank::new(1),
+        )
     }
 }
