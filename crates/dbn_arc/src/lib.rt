@@ -9,3 +9,6 @@ pub use dbn_net::{Want, Wants};
 pub use guard::guard_holds;
 pub use inclusion::included;
 pub use instantiation::instantiate;
+
+#[cfg(test)]
+mod tests;
