@@ -1,0 +1,3 @@
+pub mod Envs
+pub mod Given
+pub mod Prepared

@@ -1,0 +1,12 @@
+//! What formulas say of an instance, found from scratch.
+#![tactic(auto)]
+
+mod answering;
+mod atoms;
+mod bindings;
+mod domains;
+mod listing;
+mod solving;
+mod tables;
+
+pub use answering::{answers, holds};
