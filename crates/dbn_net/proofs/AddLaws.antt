@@ -1,11 +1,12 @@
 -- One more declaration at the end of a net: each table of its kind grows by one, and all others stay.
-use Rattle.std.proofs.Common.{◌≡◌, ℕ, suc, true, List, [], ◌∷◌, ◌++◌, map, refl, sym, ap, subst, ◌∙◌, inl, inr, ⊎_elim, Option, Some, None, length, append-nil, append_assoc}
-use Rattle.std.specs.Prelude.{nat_lt}
+use Rattle.std.proofs.Common.{◌≡◌, ℕ, suc, true, List, [], ◌∷◌, ◌++◌, map, refl, sym, ap, subst, ◌∙◌, inl, inr, ⊎_elim, Option, Some, None, length, append-nil, append_assoc, arith}
+use Rattle.std.specs.Prelude.{nat_lt, ◌≤◌, ◌^◌, max}
 use Rattle.std.specs.List.{filter_map, cons_option, list_all}
 use Rattle.std.specs.Option.{option_map}
 use Rattle.std.proofs.lemmas.Bool.{and_parts}
 use Rattle.std.proofs.lemmas.List.{map-append}
 use Rattle.std.proofs.lemmas.List.Elements.{filter_map-append}
+use Rattle.std.proofs.lemmas.Grind.{flat_map-append}
 use Rattle.dbn_value.specs.Members.{In}
 use Rattle.dbn_value.specs.declared.value.ColType.{ColType}
 use Rattle.dbn_value.proofs.MemberLaws.{all_at, all_from, in_append}
@@ -13,7 +14,7 @@ use Rattle.dbn_formula.specs.Typing.{Shapes}
 use Rattle.dbn_net.specs.declared.violation.Label.TheVariants as label
 use Rattle.dbn_net.specs.declared.tables.Head.{Head}
 use Rattle.dbn_net.specs.declared.tables.Kind.{Kind}
-use Rattle.dbn_net.specs.declared.tables.Line.{Line}
+use Rattle.dbn_net.specs.declared.tables.Noted.{Noted}
 use Rattle.dbn_net.specs.declared.tables.Tables.{Tables}
 use Rattle.dbn_net.specs.declared.decl.Place.{Place}
 use Rattle.dbn_net.specs.declared.decl.Place.TheVariants as place
@@ -27,27 +28,29 @@ use Rattle.dbn_net.specs.Naming.{number_of, name_at, fields_of, resolved_key, re
 use Rattle.dbn_net.specs.Judging.{is_new}
 use Rattle.dbn_net.specs.Sentences.{labelled, key_sentence, foreign_sentence, sentence_in, labelled_sentences, denied, violations}
 use Rattle.dbn_net.specs.WellFormed.{Passes, WellFormed}
-use Rattle.dbn_net.specs.Kept.{Kept, headed, line_of, with_head, with_line, is_new_line}
+use Rattle.dbn_net.specs.Values.{decl_constants, rule_values, past_ids}
+use Rattle.dbn_net.specs.Kept.{Kept, headed, line_of, noted_of, with_head, with_noted, is_new_line}
 use Rattle.dbn_net.proofs.Maybes.{some_is, first_found, mapped_found}
 use Rattle.dbn_net.proofs.NamedLaws.{number_within}
 use Rattle.dbn_net.proofs.MadeLaws.{below_mapped}
 use Rattle.dbn_net.proofs.BackLaws.{one_more}
+use Rattle.dbn_net.proofs.NextLaws.{past_append}
 use Rattle.dbn_net.proofs.LiftLaws.{stood, judged_there, relations_kept, place_known, site_known, sites_known, site_in_is, shape_more}
 
 -- ---- one more at the end, if there is one
 
-abbrev grow : {A : Type 0} → List A → Option A → List A
+abbrev pub grow : {A : Type 0} → List A → Option A → List A
 grow xs None = xs
 grow xs (Some x) = xs ++ x ∷ []
 
-filter_grow : {A : Type 0} (f : Decl → Option A) (net : List Decl) (d : Decl) → filter_map f (net ++ d ∷ []) ≡ grow (filter_map f net) (f d)
+pub filter_grow : {A : Type 0} (f : Decl → Option A) (net : List Decl) (d : Decl) → filter_map f (net ++ d ∷ []) ≡ grow (filter_map f net) (f d)
 filter_grow {A} f net d = filter_map-append f net (d ∷ []) ∙ by (f d)
   where
     by : (o : Option A) → filter_map f net ++ cons_option o [] ≡ grow (filter_map f net) o
     by None = append-nil (filter_map f net)
     by (Some a) = refl
 
-map_grow : {A B : Type 0} (g : A → B) (xs : List A) (o : Option A) → map g (grow xs o) ≡ grow (map g xs) (option_map g o)
+pub map_grow : {A B : Type 0} (g : A → B) (xs : List A) (o : Option A) → map g (grow xs o) ≡ grow (map g xs) (option_map g o)
 map_grow g xs None = refl
 map_grow g xs (Some x) = map-append g xs (x ∷ [])
 
@@ -135,10 +138,10 @@ places_more net d ok p =
 key_is : (n m : ℕ) (fs gs : List ℕ) → Part (Key n fs) ≡ Part (Key m gs) → n ≡ m
 key_is n m fs gs e = cc
 
-foreign_from : (n m k l : ℕ) (fs gs hs ks : List ℕ) → Part (Foreign n fs m gs) ≡ Part (Foreign k hs l ks) → n ≡ k
+pub foreign_from : (n m k l : ℕ) (fs gs hs ks : List ℕ) → Part (Foreign n fs m gs) ≡ Part (Foreign k hs l ks) → n ≡ k
 foreign_from n m k l fs gs hs ks e = cc
 
-foreign_to : (n m k l : ℕ) (fs gs hs ks : List ℕ) → Part (Foreign n fs m gs) ≡ Part (Foreign k hs l ks) → m ≡ l
+pub foreign_to : (n m k l : ℕ) (fs gs hs ks : List ℕ) → Part (Foreign n fs m gs) ≡ Part (Foreign k hs l ks) → m ≡ l
 foreign_to n m k l fs gs hs ks e = cc
 
 name_below : (net : List Decl) (name : Name) (n : ℕ) → number_of (relation_names net) name ≡ Some n → nat_lt n (length (relations net)) ≡ true
@@ -191,7 +194,7 @@ old_same net ys e ok at =
     ∙ sentence_same s.front ((e ∷ s.rest) ++ ys) e s.passes
     ∙ sym (sentence_same s.front (e ∷ s.rest) e s.passes))
 
-denials_more : (net : List Decl) (d : Decl) → WellFormed net → Passes net d
+pub denials_more : (net : List Decl) (d : Decl) → WellFormed net → Passes net d
     → violations (net ++ d ∷ []) ≡ grow (violations net) (option_map denied (sentence_in (relation_shapes net) d))
 denials_more net d ok p =
     ap (map denied)
@@ -201,6 +204,16 @@ denials_more net d ok p =
     (in_append e net (d ∷ []) at))
     ∙ filter_grow (sentence_in (relation_shapes net)) net d)
     ∙ map_grow denied (labelled_sentences net) (sentence_in (relation_shapes net) d)
+
+-- ---- values
+
+rules_past : (net : List Decl) (d : Decl) → past_ids (rule_values (net ++ d ∷ [])) ≡ max (past_ids (rule_values net)) (past_ids (decl_constants d))
+rules_past net d =
+    ap past_ids (flat_map-append decl_constants net (d ∷ []) ∙ ap (λ l. rule_values net ++ l) (append-nil (decl_constants d)))
+    ∙ past_append (rule_values net) (decl_constants d)
+
+both_within : (a b n : ℕ) → a ≤ n → b ≤ n → max a b ≤ n
+both_within a b n first second = omega (arith, first, second)
 
 -- ---- all tables
 
@@ -213,9 +226,11 @@ grown t n rels asks d = record {
   transitions = grow_kind t.transitions n (option_map (λ u. headed u.name (shape_of u)) (transition_in d));
   always = grow t.always (always_in d);
   denials = grow t.denials (option_map denied (sentence_in rels d));
+  past = max t.past (past_ids (decl_constants d));
 }
 
-line_grown : (t : Tables) (n : ℕ) (rels asks : Shapes) (d : Decl) → grown t n rels asks d ≡ with_line t n (line_of rels asks d)
+line_grown : (t : Tables) (n : ℕ) (rels asks : Shapes) (d : Decl) → grown t n rels asks d ≡ with_noted t n (noted_of rels asks d)
+unfolding noted_of with_noted
 line_grown t n rels asks (Relation name fields) = refl
 line_grown t n rels asks (Key rel fields) = refl
 line_grown t n rels asks (Foreign rel fields to to_fields) = refl
@@ -225,8 +240,8 @@ line_grown t n rels asks (Act a) = refl
 line_grown t n rels asks (Site p) = refl
 line_grown t n rels asks (Trans u) = refl
 
-kept_grown : (net : List Decl) (t : Tables) (d : Decl) → Kept net t → Passes net d → Kept (net ++ d ∷ []) (grown t (length net) (relation_shapes net) (query_shapes net) d)
-kept_grown net t d kept p =
+kept_grown : (net : List Decl) (t : Tables) (d : Decl) → Kept net t → Passes net d → past_ids (decl_constants d) ≤ 2 ^ 62 → Kept (net ++ d ∷ []) (grown t (length net) (relation_shapes net) (query_shapes net) d)
+kept_grown net t d kept p small =
     let r = kind_more relation_in (λ a. a.name) relation_shape t.relations net d (record { at = kept.relations_at; names = kept.relations_named; types = kept.relations_typed }) in
     let q = kind_more query_in (λ a. a.name) (λ a. types_of a.vars) t.queries net d (record { at = kept.queries_at; names = kept.queries_named; types = kept.queries_typed }) in
     let a = kind_more action_in (λ x. x.name) (λ x. types_of x.params) t.actions net d (record { at = kept.actions_at; names = kept.actions_named; types = kept.actions_typed }) in
@@ -250,22 +265,29 @@ kept_grown net t d kept p =
       transitions_typed = u.types;
       always_named = ap (λ l. grow l (always_in d)) kept.always_named ∙ sym (filter_grow always_in net d);
       denied = ap (λ l. grow l (option_map denied (sentence_in (relation_shapes net) d))) kept.denied ∙ sym (denials_more net d kept.well_formed p);
+      past = ap (λ n. max n (past_ids (decl_constants d))) kept.past ∙ sym (rules_past net d);
+      past_small = both_within t.past (past_ids (decl_constants d)) (2 ^ 62) kept.past_small small;
       well_formed = one_more [] net d kept.well_formed p;
     }
 
-pub kept_more : (net : List Decl) (t : Tables) (d : Decl) → Kept net t → Passes net d
-    → Kept (net ++ d ∷ []) (with_line t (length net) (line_of t.relations.types t.queries.types d))
-kept_more net t d kept p =
-    subst (λ rels. Kept (net ++ d ∷ []) (with_line t (length net) (line_of rels t.queries.types d))) (sym kept.relations_typed)
-    (subst (λ asks. Kept (net ++ d ∷ []) (with_line t (length net) (line_of (relation_shapes net) asks d))) (sym kept.queries_typed)
-    (subst (Kept (net ++ d ∷ [])) (line_grown t (length net) (relation_shapes net) (query_shapes net) d) (kept_grown net t d kept p)))
+pub kept_more : (net : List Decl) (t : Tables) (d : Decl) → Kept net t → Passes net d → past_ids (decl_constants d) ≤ 2 ^ 62
+    → Kept (net ++ d ∷ []) (with_noted t (length net) (noted_of t.relations.types t.queries.types d))
+kept_more net t d kept p small =
+    subst (λ rels. Kept (net ++ d ∷ []) (with_noted t (length net) (noted_of rels t.queries.types d))) (sym kept.relations_typed)
+    (subst (λ asks. Kept (net ++ d ∷ []) (with_noted t (length net) (noted_of (relation_shapes net) asks d))) (sym kept.queries_typed)
+    (subst (Kept (net ++ d ∷ [])) (line_grown t (length net) (relation_shapes net) (query_shapes net) d) (kept_grown net t d kept p small)))
+
+noted_past : (rels asks : Shapes) (d : Decl) (m : Noted) → m ≡ noted_of rels asks d → m.past ≡ past_ids (decl_constants d)
+unfolding noted_of
+noted_past rels asks d m is = ap (λ (n : Noted). n.past) is
 
 -- the tables behind a declaration that was pushed, by what the steps say of them
-pub kept_added : (net more : List Decl) (t after : Tables) (n : ℕ) (l : Line) (d : Decl) → Kept net t → Passes net d → n ≡ length net
-    → l ≡ line_of t.relations.types t.queries.types d → more ≡ net ++ d ∷ [] → after ≡ with_line t n l → Kept more after
-kept_added net more t after n l d kept p place line pushed entered =
+pub kept_added : (net more : List Decl) (t after : Tables) (n : ℕ) (m : Noted) (d : Decl) → Kept net t → Passes net d → n ≡ length net
+    → m ≡ noted_of t.relations.types t.queries.types d → m.past ≤ 2 ^ 62 → more ≡ net ++ d ∷ [] → after ≡ with_noted t n m → Kept more after
+kept_added net more t after n m d kept p place is small pushed entered =
+    let within : past_ids (decl_constants d) ≤ 2 ^ 62 = subst (λ k. k ≤ 2 ^ 62) (noted_past t.relations.types t.queries.types d m is) small in
     subst (λ ds. Kept ds after) (sym pushed)
-    (subst (Kept (net ++ d ∷ [])) (sym (entered ∙ (λ i. with_line t (place i) (line i)))) (kept_more net t d kept p))
+    (subst (Kept (net ++ d ∷ [])) (sym (entered ∙ (λ i. with_noted t (place i) (is i)))) (kept_more net t d kept p within))
 
 pub kept_same : (net back : List Decl) (t after : Tables) → Kept net t → back ≡ net → after ≡ t → Kept back after
 kept_same net back t after kept same unchanged = subst (λ ds. Kept ds after) (sym same) (subst (Kept net) (sym unchanged) kept)
@@ -290,5 +312,6 @@ new_line net t rels asks (Site (place.View name query)) kept p =
 new_line net t rels asks (Trans u) kept p =
     ap (λ names. is_new names u.name) kept.transitions_named ∙ (and_parts _ _ (judged_there net (Trans u) p).once).0
 
-pub new_entered : (net : List Decl) (t : Tables) (rels asks : Shapes) (l : Line) (d : Decl) → Kept net t → Passes net d → l ≡ line_of rels asks d → is_new_line t l ≡ true
-new_entered net t rels asks l d kept p is = ap (is_new_line t) is ∙ new_line net t rels asks d kept p
+pub new_entered : (net : List Decl) (t : Tables) (rels asks : Shapes) (m : Noted) (d : Decl) → Kept net t → Passes net d → m ≡ noted_of rels asks d → is_new_line t m.line ≡ true
+unfolding noted_of
+new_entered net t rels asks m d kept p is = ap (λ (n : Noted). is_new_line t n.line) is ∙ new_line net t rels asks d kept p

@@ -317,7 +317,7 @@ transition_in_is (Query name vars body) t is = absurd cc
 transition_in_is (Act a) t is = absurd cc
 transition_in_is (Site p) t is = absurd cc
 
-made_there : (front : List Decl) (t : Transition) → Passes front (Trans t) → Made front (written_transition front t) t
+pub made_there : (front : List Decl) (t : Transition) → Passes front (Trans t) → Made front (written_transition front t) t
 made_there front t p =
     let j = judged_there front (Trans t) p in
     let (u, is, made) = mapped_found (λ x. Part (Trans x)) (transition front (written_transition front t)) (Part (Trans t)) j.is in

@@ -59,7 +59,7 @@ was_made net r t e =
 
 -- ---- numbers
 
-site_has : (is : Place → Bool) (sites : List Place) (o : Option ℕ) (m : ℕ) → (o >>= site_if is sites) ≡ Some m → has_place is sites m ≡ true
+pub site_has : (is : Place → Bool) (sites : List Place) (o : Option ℕ) (m : ℕ) → (o >>= site_if is sites) ≡ Some m → has_place is sites m ≡ true
 site_has is sites o m e =
     let (n, at, rest) = first_found o (site_if is sites) m e in
     let (site, here, kept) = first_found (slice_get sites n) (λ s. only_if (is s) n) m rest in

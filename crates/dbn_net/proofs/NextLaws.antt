@@ -1,15 +1,18 @@
 -- The first id that no value of a list has, good snapshots with a later next id, and rows that are looked at in part.
-use Rattle.std.proofs.Common.{◌≡◌, ℕ, ◌<◌, ◌≤◌, ◌^◌, zero, suc, true, List, [], ◌∷◌, refl, ap, arith, length, take}
-use Rattle.std.specs.Prelude.{max}
+use Rattle.std.proofs.Common.{◌≡◌, ℕ, ◌+◌, ◌<◌, ◌≤◌, ◌^◌, zero, suc, true, List, [], ◌∷◌, ◌++◌, refl, sym, ap, subst, ◌∙◌, arith, length, take, append-nil}
+use Rattle.std.specs.Prelude.{max, slice_index_or, get_or}
+use Rattle.std.specs.List.{flat_map}
 use Rattle.std.proofs.lemmas.Bool.{and_parts, and_from, ltb-true, lt-ltb}
+use Rattle.std.proofs.lemmas.Grind.{flat_map-append}
+use Rattle.dbn_value.proofs.ListLaws.{take_more}
 use Rattle.dbn_value.specs.declared.value.Value.{Value}
 use Rattle.dbn_value.specs.declared.value.Value.TheVariants.{Int, Text, Id}
 use Rattle.dbn_formula.specs.Holds.{Instance}
-use Rattle.dbn_formula.specs.Answers.{bind}
+use Rattle.dbn_formula.specs.Answers.{bind, values_in}
 use Rattle.dbn_net.specs.declared.snapshot.Snapshot.{Snapshot}
 use Rattle.dbn_net.specs.declared.rules.Transition.{Transition}
 use Rattle.dbn_net.specs.declared.decl.Decl.{Decl}
-use Rattle.dbn_net.specs.Values.{Marking, id_below, ids_below, past_id, past_ids, all_values, next_after}
+use Rattle.dbn_net.specs.Values.{Marking, id_below, ids_below, past_id, past_ids, token_values, rule_values, all_values, next_after}
 use Rattle.dbn_net.specs.Enabled.{bound_part, enabled, enabled_in}
 use Rattle.dbn_net.specs.Good.{Good}
 
@@ -35,6 +38,57 @@ past_all (v ∷ vs) =
     and_from (id_below (max (past_id v) (past_ids vs)) v) (ids_below (max (past_id v) (past_ids vs)) vs)
     (past_own v (max (past_id v) (past_ids vs)) (omega arith))
     (below_later (past_ids vs) (max (past_id v) (past_ids vs)) vs (omega arith) (past_all vs))
+
+max_moved : (a b c : ℕ) → max a (max b c) ≡ max (max a b) c
+max_moved a b c = omega arith
+
+pub past_append : (xs ys : List Value) → past_ids (xs ++ ys) ≡ max (past_ids xs) (past_ids ys)
+past_append [] ys = omega arith
+past_append (x ∷ xs) ys = ap (max (past_id x)) (past_append xs ys) ∙ max_moved (past_id x) (past_ids xs) (past_ids ys)
+
+-- one more of the lists
+past_suc : {A : Type 0} (f : A → List Value) (xs : List A) (n : ℕ) (d : A) → n < length xs
+    → past_ids (flat_map f (take (suc n) xs)) ≡ max (past_ids (flat_map f (take n xs))) (past_ids (f (slice_index_or xs n d)))
+past_suc f [] n d less = absurd (omega (arith, less))
+past_suc f (x ∷ xs) zero d less = past_append (f x) [] ∙ omega arith
+past_suc f (x ∷ xs) (suc n) d less =
+    past_append (f x) (flat_map f (take (suc n) xs))
+    ∙ ap (max (past_ids (f x))) (past_suc f xs n d (omega (arith, less)))
+    ∙ max_moved (past_ids (f x)) (past_ids (flat_map f (take n xs))) (past_ids (f (slice_index_or xs n d)))
+    ∙ ap (λ k. max k (past_ids (f (slice_index_or xs n d)))) (sym (past_append (f x) (flat_map f (take n xs))))
+
+pub past_more : {A : Type 0} (f : A → List Value) (xs : List A) (n : ℕ) (d : A) → n < length xs
+    → past_ids (flat_map f (take (n + 1) xs)) ≡ max (past_ids (flat_map f (take n xs))) (past_ids (f (slice_index_or xs n d)))
+past_more f xs n d less =
+    let one : suc n ≡ n + 1 = omega arith in
+    subst (λ k. past_ids (flat_map f (take k xs)) ≡ max (past_ids (flat_map f (take n xs))) (past_ids (f (slice_index_or xs n d)))) one (past_suc f xs n d less)
+
+pub next_made : (net : List Decl) (db : Instance) (marking : Marking) (facts tokens rules : ℕ) → facts ≡ past_ids (values_in db) → tokens ≡ past_ids (token_values marking) → rules ≡ past_ids (rule_values net)
+    → max (max facts tokens) rules ≡ next_after net db marking
+next_made net db marking facts tokens rules f t r =
+    (λ i. max (max (f i) (t i)) (r i))
+    ∙ ap (λ n. max n (past_ids (rule_values net))) (sym (past_append (values_in db) (token_values marking)))
+    ∙ sym (past_append (values_in db ++ token_values marking) (rule_values net))
+
+-- one more turn of a loop over a list
+pub past_step : {A : Type 0} (f : A → List Value) (xs : List A) (n : ℕ) (x : A) (old one new : ℕ) → n < length xs → x ≡ get_or xs n x
+    → old ≡ past_ids (flat_map f (take n xs)) → one ≡ past_ids (f x) → new ≡ max old one → new ≡ past_ids (flat_map f (take (n + 1) xs))
+past_step f xs n x old one new less is before this made =
+    made ∙ (λ i. max (before i) (this i))
+    ∙ sym (ap past_ids (ap (flat_map f) (take_more xs n x less is) ∙ flat_map-append f (take n xs) (x ∷ []) ∙ ap (λ l. flat_map f (take n xs) ++ l) (append-nil (f x)))
+    ∙ past_append (flat_map f (take n xs)) (f x))
+
+-- one more turn of a loop over places of a list
+pub past_more_step : {A : Type 0} (f : A → List Value) (xs : List A) (n : ℕ) (d : A) (old one new : ℕ) → n < length xs
+    → old ≡ past_ids (flat_map f (take n xs)) → one ≡ past_ids (f (slice_index_or xs n d)) → new ≡ max old one → new ≡ past_ids (flat_map f (take (n + 1) xs))
+past_more_step f xs n d old one new less before this made = made ∙ (λ i. max (before i) (this i)) ∙ sym (past_more f xs n d less)
+
+pub past_value_step : (vs : List Value) (n : ℕ) (v : Value) (old one new : ℕ) → n < length vs → v ≡ get_or vs n v
+    → old ≡ past_ids (take n vs) → one ≡ past_id v → new ≡ max old one → new ≡ past_ids (take (n + 1) vs)
+past_value_step vs n v old one new less is before this made =
+    let alone : max (past_id v) 0 ≡ past_id v = omega arith in
+    made ∙ (λ i. max (before i) (this i))
+    ∙ sym (ap past_ids (take_more vs n v less is) ∙ past_append (take n vs) (v ∷ []) ∙ ap (max (past_ids (take n vs))) alone)
 
 -- the ids of a state and of the net are below the next one after them
 pub next_is_past : (net : List Decl) (db : Instance) (marking : Marking) → ids_below (next_after net db marking) (all_values net db marking) ≡ true

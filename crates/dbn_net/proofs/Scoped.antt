@@ -39,14 +39,14 @@ use Rattle.dbn_net.proofs.MadeLaws.{Made}
 
 -- ---- names that stand once
 
-later_new : (names seen : List Name) (s y : Name) → once_behind seen names ≡ true → In s seen → In y names → name_eq y s ≡ false
+pub later_new : (names seen : List Name) (s y : Name) → once_behind seen names ≡ true → In s seen → In y names → name_eq y s ≡ false
 later_new [] seen s y e before at = absurd at
 later_new (z ∷ names) seen s y e before at =
     let parts = and_parts (is_new seen z) (once_behind (seen ++ z ∷ []) names) e in
     ⊎_elim (λ here. ap (λ n. name_eq n s) here ∙ fails_at (name_eq z) s seen (not-true (list_any (name_eq z) seen) parts.0) before)
     (λ later. later_new names (seen ++ z ∷ []) s y parts.1 (append_left s seen (z ∷ []) before) later) at
 
-itself : (n : Name) → name_eq n n ≡ true
+pub itself : (n : Name) → name_eq n n ≡ true
 itself n = (bytes_eq-Decides n n).1 refl
 
 pub once_distinct : (seen : List Name) (vars : TypedVars) → once_behind seen (scope_names vars) ≡ true → distinct_vars vars ≡ true

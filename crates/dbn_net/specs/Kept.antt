@@ -1,5 +1,5 @@
 -- The tables that are kept of a net, and what one more declaration adds to them.
-use Rattle.std.specs.Prelude.{◌≡◌, ℕ, Bool, true, List, [], ◌∷◌, ◌++◌, map}
+use Rattle.std.specs.Prelude.{◌≡◌, ◌≤◌, ◌^◌, ℕ, max, Bool, true, List, [], ◌∷◌, ◌++◌, map}
 use Rattle.dbn_value.specs.declared.value.ColType.{ColType}
 use Rattle.dbn_formula.specs.Typing.{Shapes}
 use Rattle.dbn_net.specs.declared.violation.Label.TheVariants as label
@@ -7,6 +7,7 @@ use Rattle.dbn_net.specs.declared.tables.Head.{Head}
 use Rattle.dbn_net.specs.declared.tables.Kind.{Kind}
 use Rattle.dbn_net.specs.declared.tables.Line.{Line}
 use Rattle.dbn_net.specs.declared.tables.Line.TheVariants as line
+use Rattle.dbn_net.specs.declared.tables.Noted.{Noted}
 use Rattle.dbn_net.specs.declared.tables.Tables.{Tables}
 use Rattle.dbn_net.specs.declared.decl.Decl.{Decl}
 use Rattle.dbn_net.specs.declared.decl.Decl.TheVariants.{Relation, Key, Foreign, Always, Query, Act, Site, Trans}
@@ -16,6 +17,7 @@ use Rattle.dbn_net.specs.Positions.{positions}
 use Rattle.dbn_net.specs.Judging.{is_new}
 use Rattle.dbn_net.specs.Sentences.{labelled, key_sentence, foreign_sentence, denied, violations}
 use Rattle.dbn_net.specs.WellFormed.{WellFormed}
+use Rattle.dbn_net.specs.Values.{past_ids, rule_values, decl_constants}
 
 -- each table says what the declarations say
 pub record Kept (net : List Decl) (t : Tables) : Type 0 where
@@ -36,6 +38,8 @@ pub record Kept (net : List Decl) (t : Tables) : Type 0 where
   pub transitions_typed : t.transitions.types ≡ shapes net
   pub always_named : t.always ≡ always_names net
   pub denied : t.denials ≡ violations net
+  pub past : t.past ≡ past_ids (rule_values net)
+  pub past_small : t.past ≤ 2 ^ 62
   pub well_formed : WellFormed net
 
 -- ---- one more declaration
@@ -60,20 +64,24 @@ abbrev pub with_head : Kind → ℕ → Head → Kind
 with_head k n h = record { at = k.at ++ n ∷ []; names = k.names ++ h.name ∷ []; types = k.types ++ h.types ∷ [] }
 
 abbrev pub with_line : Tables → ℕ → Line → Tables
-with_line t n (line.Relation h) =
-    record { relations = with_head t.relations n h; queries = t.queries; actions = t.actions; places = t.places; transitions = t.transitions; always = t.always; denials = t.denials }
-with_line t n (line.Query h) =
-    record { relations = t.relations; queries = with_head t.queries n h; actions = t.actions; places = t.places; transitions = t.transitions; always = t.always; denials = t.denials }
-with_line t n (line.Action h) =
-    record { relations = t.relations; queries = t.queries; actions = with_head t.actions n h; places = t.places; transitions = t.transitions; always = t.always; denials = t.denials }
-with_line t n (line.Place h) =
-    record { relations = t.relations; queries = t.queries; actions = t.actions; places = with_head t.places n h; transitions = t.transitions; always = t.always; denials = t.denials }
-with_line t n (line.Transition h) =
-    record { relations = t.relations; queries = t.queries; actions = t.actions; places = t.places; transitions = with_head t.transitions n h; always = t.always; denials = t.denials }
-with_line t n (line.Sentence s) =
-    record { relations = t.relations; queries = t.queries; actions = t.actions; places = t.places; transitions = t.transitions; always = t.always; denials = t.denials ++ s ∷ [] }
-with_line t n (line.Always name s) =
-    record { relations = t.relations; queries = t.queries; actions = t.actions; places = t.places; transitions = t.transitions; always = t.always ++ name ∷ []; denials = t.denials ++ s ∷ [] }
+with_line t n (line.Relation h) = record t { relations = with_head t.relations n h }
+with_line t n (line.Query h) = record t { queries = with_head t.queries n h }
+with_line t n (line.Action h) = record t { actions = with_head t.actions n h }
+with_line t n (line.Place h) = record t { places = with_head t.places n h }
+with_line t n (line.Transition h) = record t { transitions = with_head t.transitions n h }
+with_line t n (line.Sentence s) = record t { denials = t.denials ++ s ∷ [] }
+with_line t n (line.Always name s) = record t { always = t.always ++ name ∷ []; denials = t.denials ++ s ∷ [] }
+
+-- with values below this id
+abbrev pub with_past : Tables → ℕ → Tables
+with_past t m = record t { past = max t.past m }
+
+-- what a declaration adds, and the first id after those that are written in it
+unfoldable pub noted_of : Shapes → Shapes → Decl → Noted
+noted_of rels asks d = record { line = line_of rels asks d; past = past_ids (decl_constants d) }
+
+unfoldable pub with_noted : Tables → ℕ → Noted → Tables
+with_noted t n noted = with_past (with_line t n noted.line) noted.past
 
 -- the name, if there is one, is new in its kind
 abbrev pub is_new_line : Tables → Line → Bool

@@ -27,7 +27,7 @@ ghost use Rattle.dbn_net.specs.Naming.{resolved, named};
 ghost use Rattle.dbn_net.specs.Judging.{Begun, judged, is_counted};
 ghost use Rattle.dbn_net.specs.Sentences.{violations, consistent};
 ghost use Rattle.dbn_net.specs.WellFormed.{Passes, WellFormed, Fits};
-ghost use Rattle.dbn_net.specs.Values.{Marking, all_values};
+ghost use Rattle.dbn_net.specs.Values.{Marking, all_values, ids_below, next_after};
 ghost use Rattle.dbn_net.specs.Enabled.{bound_part, enabled, values_for};
 ghost use Rattle.dbn_net.specs.Good.{Good};
 ghost use Rattle.dbn_net.specs.Texts.{canonical_list, ReadsAgain};
@@ -70,4 +70,9 @@ pub fn what_was_read_may_follow()
 pub fn texts_are_read_again()
     ensures { (bytes : List ℕ) (net : List Decl) (s : Snapshot) → list_reads 64 bytes ≡ Ok (on_lines 1 (canonical_list net s.instance s.marking))
         → WellFormed net → Good net s → ReadsAgain bytes net s.instance s.marking s.next }
+{}
+
+/// The ids of a state and of the net are below the first id after them.
+pub fn the_next_id_is_new()
+    ensures { (net : List Decl) (db : Instance) (marking : Marking) → ids_below (next_after net db marking) (all_values net db marking) ≡ true }
 {}

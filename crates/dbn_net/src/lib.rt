@@ -3,6 +3,7 @@
 
 mod decl;
 mod fault;
+mod first_ids;
 mod laws;
 mod names;
 mod net;
@@ -18,9 +19,9 @@ pub use decl::{Decl, Decls, Entry, Place};
 pub use fault::NetKind;
 pub use laws::{
     declarations_both_ways, enabled_rows_are_of_the_state, nets_fit, no_violation_is_consistent,
-    texts_are_read_again, what_was_read_may_follow,
+    texts_are_read_again, the_next_id_is_new, what_was_read_may_follow,
 };
-pub use net::{Net, violations};
+pub use net::{Net, start_next, violations};
 pub use rules::{Arc, Arcs, Call, Flags, Pattern, Patterns, Read, Reads, Transition};
 pub use snapshot::Snapshot;
 pub use violation::{Label, Named, Violations};

@@ -1,6 +1,6 @@
 //! Nets as values.
 
-ghost use Rattle.std.specs.Prelude.{◌≡◌, ◌<◌, ◌++◌, ◌∷◌, [], ℕ, List, OnOk, OnErr, not, length, Some, true, slice_get};
+ghost use Rattle.std.specs.Prelude.{◌≡◌, ◌<◌, ◌≤◌, ◌^◌, ◌++◌, ◌∷◌, [], ℕ, List, OnOk, OnErr, not, length, Some, true, slice_get};
 ghost use Rattle.dbn_formula.specs.Solutions.{AcceptsQuery};
 ghost use Rattle.dbn_net.specs.declared.decl.Decl.{Decl};
 ghost use Rattle.dbn_net.specs.Tables.{Question, Table, relation_in, query_in, relations, queries, actions, places, transitions, relation_names, always_names, query_names, action_names, place_names, transition_names, relation_shapes, place_shapes, shapes};
@@ -8,10 +8,12 @@ ghost use Rattle.dbn_net.specs.Naming.{number_of};
 ghost use Rattle.dbn_net.specs.Judging.{is_new};
 ghost use Rattle.dbn_net.specs.Sentences.{labelled_sentences, violations as net_violations};
 ghost use Rattle.dbn_net.specs.WellFormed.{Passes, WellFormed, Fits, action_fits};
+ghost use Rattle.dbn_net.specs.Values.{past_ids, rule_values, next_after};
 
 use super::decl::{Decl, Decls, Place};
+use super::first_ids::{greater, noted, past_instance, past_marking};
 use super::rules::Transition;
-use super::sentences::line_of;
+use super::snapshot::Snapshot;
 use super::tables::Tables;
 use super::violation::Violations;
 use dbn_instance::Action;
@@ -55,17 +57,17 @@ impl Net {
     }
 
     /// Adds a declaration that may follow those of the net. After want of memory nothing changed.
-    #[tactic(auto, using(crate::proofs::AddLaws::new_entered, crate::proofs::AddLaws::kept_added))]
+    #[tactic(auto, using(crate::proofs::AddLaws::new_entered))]
     pub fn add(&mut self, alloc: Global, decl: Decl) -> Result<(), AllocError>
         requires { Passes self.old decl }
         ensures ok { OnOk result (self.new ≡ self.old ++ decl ∷ []) }
         ensures err { OnErr result (self.new ≡ self.old) }
     {
         let tables = &self.tables;
-        let line = line_of(alloc, &tables.relations.types, &tables.queries.types, &decl)?;
+        let noted = noted(alloc, &tables.relations.types, &tables.queries.types, &decl)?;
         let place = self.decls.len();
         self.decls.push(decl)?;
-        match self.tables.enter(place, line) {
+        match self.tables.enter(place, noted) {
             Ok(()) => Ok(()),
             Err(_) => {
                 drop_last(&mut self.decls);
@@ -143,6 +145,14 @@ impl Net {
         ensures { result.now ≡ shapes self.now }
     {
         &self.tables.transitions.types
+    }
+
+    /// One more than the greatest id that is written in the net, or 0 where there is none.
+    fn past(&self) -> u64
+        ensures value { result ≡ past_ids (rule_values self.now) }
+        ensures small { result ≤ 2 ^ 62 }
+    {
+        self.tables.past
     }
 
     /// The n-th relation.
@@ -254,6 +264,18 @@ fn nth<'net>(decls: &'net Decls, at: &Items<usize>, n: usize) -> &'net Decl
     ensures { (i : ℕ) → slice_get at.now n ≡ Some i → slice_get decls.now i ≡ Some result.now }
 {
     &decls.as_slice()[at.as_slice()[n]]
+}
+
+/// One more than the greatest id of the facts, the tokens and the declarations, or 0 where there is none: the first id that a
+/// fresh variable may get. The numbers of the snapshot are not looked at. This takes no memory.
+#[tactic(auto, using(crate::proofs::NextLaws::next_made))]
+pub fn start_next(net: &Net, at: &Snapshot) -> u64
+    ensures value { result ≡ next_after net.now at.now.instance at.now.marking }
+    ensures small { result ≤ 2 ^ 62 }
+{
+    let facts = past_instance(&at.instance);
+    let tokens = past_marking(&at.marking);
+    greater(greater(facts, tokens), net.past())
 }
 
 /// The violations of the sentences, in order of declaration.

@@ -4,8 +4,9 @@ ghost use Rattle.std.specs.Prelude.{◌≡◌, ◌++◌, ◌∷◌, [], ℕ, Lis
 ghost use Rattle.dbn_value.specs.declared.value.ColType.{ColType};
 ghost use Rattle.dbn_net.specs.declared.violation.Named.{Named};
 ghost use Rattle.dbn_net.specs.Judging.{is_new};
-ghost use Rattle.dbn_net.specs.Kept.{Kept, with_head, with_line, is_new_line};
+ghost use Rattle.dbn_net.specs.Kept.{Kept, with_head, with_line, with_past, with_noted, is_new_line};
 
+use super::first_ids::greater;
 use super::names::NameTable;
 use super::violation::{Named, Violations};
 use dbn_value::{Bytes, Shape, Shapes};
@@ -31,6 +32,13 @@ pub(crate) enum Line {
     Always(Bytes, Named),
 }
 
+/// What a declaration adds to the tables, and one more than the greatest id that is written in it, or 0 where there is none.
+#[derive(Drop)]
+pub(crate) struct Noted {
+    pub(crate) line: Line,
+    pub(crate) past: u64,
+}
+
 /// The declarations of one kind: the places at which they stand in the net, their names and their types.
 #[derive(Drop)]
 pub(crate) struct Kind {
@@ -49,6 +57,8 @@ pub(crate) struct Tables {
     pub(crate) transitions: Kind,
     pub(crate) always: NameTable,
     pub(crate) denials: Violations,
+    /// One more than the greatest id that is written in the net, or 0 where there is none.
+    pub(crate) past: u64,
 }
 
 impl Kind {
@@ -167,11 +177,12 @@ impl Tables {
             transitions: Kind::empty(alloc),
             always: NameTable::new(alloc),
             denials: Items::new(alloc),
+            past: 0,
         }
     }
 
-    /// Enters a declaration, which stands at this place. After want of memory nothing changed.
-    pub(crate) fn enter(&mut self, place: usize, line: Line) -> Result<(), AllocError>
+    /// Enters what a declaration adds, which stands at this place. After want of memory nothing changed.
+    fn enter_line(&mut self, place: usize, line: Line) -> Result<(), AllocError>
         requires { is_new_line self.old line ≡ true }
         ensures ok { OnOk result (self.new ≡ with_line self.old place line) }
         ensures err { OnErr result (self.new ≡ self.old) }
@@ -187,5 +198,29 @@ impl Tables {
                 enter_always(&mut self.always, &mut self.denials, name, denial)
             }
         }
+    }
+
+    /// Enters a declaration, which stands at this place. After want of memory nothing changed.
+    #[tactic(auto, unfolding(crate::specs::Kept::with_noted))]
+    pub(crate) fn enter(&mut self, place: usize, noted: Noted) -> Result<(), AllocError>
+        requires { is_new_line self.old noted.line ≡ true }
+        ensures ok { OnOk result (self.new ≡ with_noted self.old place noted) }
+        ensures err { OnErr result (self.new ≡ self.old) }
+    {
+        let past = noted.past;
+        match self.enter_line(place, noted.line) {
+            Ok(()) => {
+                self.raise(past);
+                Ok(())
+            }
+            Err(_) => Err(AllocError),
+        }
+    }
+
+    /// Takes note of values, of which one more than the greatest id is this.
+    fn raise(&mut self, past: u64)
+        ensures { self.new ≡ with_past self.old past }
+    {
+        self.past = greater(self.past, past);
     }
 }

@@ -8,8 +8,8 @@ invariant_of-self c = kept_same c.self.inside.decls c.push.new.self c.self.insid
 
 pub invariant_of-self-in-Ok : goal.invariant_of-self-in-Ok
 invariant_of-self-in-Ok c =
-    kept_added c.self.inside.decls c.push.new.self c.self.inside.tables c.enter.new.self c.len-place.result c.in_ok-line.line c.args.decl c.self.invariant
-    (subst (λ ds. Passes ds c.args.decl) (sym c.self.view_is) c.requires) c.len-place.ensures c.in_ok-line.ensures c.in_ok-push.ensures.ok c.in-Ok.ensures.ok
+    kept_added c.self.inside.decls c.push.new.self c.self.inside.tables c.enter.new.self c.len-place.result c.in_ok-noted.noted c.args.decl c.self.invariant
+    (subst (λ ds. Passes ds c.args.decl) (sym c.self.view_is) c.requires) c.len-place.ensures c.in_ok-noted.ensures.value c.in_ok-noted.ensures.small c.in_ok-push.ensures.ok c.in-Ok.ensures.ok
 
 pub invariant_of-self-in-Err : goal.invariant_of-self-in-Err
 invariant_of-self-in-Err c =

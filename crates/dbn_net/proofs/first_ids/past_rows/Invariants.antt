@@ -1,0 +1,8 @@
+use Rattle.std.proofs.Common.{◌≡◌, ◌≤◌, ◌^◌}
+use Rattle.std.specs.Prelude.{max}
+use Rattle.std.specs.List.{flat_map}
+use Rattle.dbn_net.specs.Values.{past_ids}
+use Rattle.dbn_net.proofs.first_ids.past_rows.Given as goal
+
+abbrev pub invariant-loop-row : goal.invariant-loop-row
+invariant-loop-row l = record { value : max l.next (past_ids (flat_map (λ row. row) l.row-iterator)) ≡ past_ids (flat_map (λ row. row) l.rows.keys); small : l.next ≤ 2 ^ 62 }
