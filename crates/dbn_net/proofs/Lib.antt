@@ -37,4 +37,8 @@ pub mod RoundGood
 pub mod PositionLaws
 pub mod AddLaws
 pub mod SentenceLaws
+pub mod RowCells
+pub mod KeyLaws
+pub mod ForeignLaws
+pub mod NetKeys
 mod EnabledExamples

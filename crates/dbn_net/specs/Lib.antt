@@ -4,6 +4,7 @@ pub mod Printing
 pub mod Tables
 pub mod Naming
 pub mod Sentences
+pub mod Keys
 pub mod Kept
 pub mod Judging
 pub mod Positions

@@ -1,6 +1,6 @@
 //! Laws of nets, as contracts of functions that do nothing.
 
-ghost use Rattle.std.specs.Prelude.{◌≡◌, ◌≤◌, ℕ, Bool, true, not, List, [], ◌∷◌, ◌++◌, map, Some, Ok, slice_get};
+ghost use Rattle.std.specs.Prelude.{◌≡◌, ◌↔◌, ◌≤◌, ℕ, Bool, true, not, List, [], ◌∷◌, ◌++◌, map, Some, Ok, slice_get};
 ghost use Rattle.std.specs.List.{list_any};
 ghost use Rattle.dbn_value.specs.declared.value.Value.{Value};
 ghost use Rattle.dbn_value.specs.Ascending.{CellsIn};
@@ -12,9 +12,10 @@ ghost use Rattle.dbn_formula.specs.declared.formula.Formula.{Formula};
 ghost use Rattle.dbn_formula.specs.Holds.{Instance};
 ghost use Rattle.dbn_formula.specs.Answers.{holds};
 ghost use Rattle.dbn_formula.specs.Normal.{normal};
-ghost use Rattle.dbn_formula.specs.Solutions.{HasShape, AcceptsQuery, AcceptsSentence};
+ghost use Rattle.dbn_formula.specs.Typing.{Shapes};
+ghost use Rattle.dbn_formula.specs.Solutions.{HasShape, HasShapes, AcceptsQuery, AcceptsSentence};
 ghost use Rattle.dbn_net.specs.declared.decl.Decl.{Decl};
-ghost use Rattle.dbn_net.specs.declared.decl.Decl.TheVariants.{Always};
+ghost use Rattle.dbn_net.specs.declared.decl.Decl.TheVariants.{Foreign, Always};
 ghost use Rattle.dbn_net.specs.declared.decl.Entry.TheVariants.{Part};
 ghost use Rattle.dbn_net.specs.declared.rules.Transition.{Transition};
 ghost use Rattle.dbn_net.specs.declared.snapshot.Snapshot.{Snapshot};
@@ -22,10 +23,11 @@ ghost use Rattle.dbn_net.specs.declared.violation.Named.{Named};
 ghost use Rattle.dbn_net.specs.declared.written.Written.{Written};
 ghost use Rattle.dbn_net.specs.Forms.{Name, declaration_in};
 ghost use Rattle.dbn_net.specs.Printing.{no_lines, sexp_of};
-ghost use Rattle.dbn_net.specs.Tables.{Question, queries, transitions, relation_shapes, types_of, shape_of};
+ghost use Rattle.dbn_net.specs.Tables.{Question, queries, transitions, columns, relation_shapes, types_of, shape_of};
 ghost use Rattle.dbn_net.specs.Naming.{resolved, named};
 ghost use Rattle.dbn_net.specs.Judging.{Begun, judged, is_counted};
-ghost use Rattle.dbn_net.specs.Sentences.{violations, consistent};
+ghost use Rattle.dbn_net.specs.Sentences.{key_sentence, foreign_sentence, violations, consistent};
+ghost use Rattle.dbn_net.specs.Keys.{IsKey, IsForeignKey};
 ghost use Rattle.dbn_net.specs.WellFormed.{Passes, WellFormed, Fits};
 ghost use Rattle.dbn_net.specs.Values.{Marking, all_values, ids_below, next_after};
 ghost use Rattle.dbn_net.specs.Enabled.{bound_part, enabled, values_for};
@@ -75,4 +77,18 @@ pub fn texts_are_read_again()
 /// The ids of a state and of the net are below the first id after them.
 pub fn the_next_id_is_new()
     ensures { (net : List Decl) (db : Instance) (marking : Marking) → ids_below (next_after net db marking) (all_values net db marking) ≡ true }
+{}
+
+/// The sentence of a key holds exactly where no two rows of the relation have the same cells in its columns.
+pub fn keys_in_words_of_rows()
+    ensures { (rels : Shapes) (rel : ℕ) (fields : List ℕ) (db : Instance) → HasShapes rels db
+        → (holds (key_sentence (columns rels rel) rel fields) db [] ≡ true) ↔ IsKey db rel fields }
+{}
+
+/// The sentence of a foreign key of a net holds exactly where each row of the one relation has the same cells in the paired
+/// columns as some row of the other.
+pub fn foreign_keys_in_words_of_rows()
+    ensures { (net : List Decl) (rel : ℕ) (fields : List ℕ) (to : ℕ) (to_fields : List ℕ) (db : Instance)
+        → WellFormed net → In (Foreign rel fields to to_fields) net → HasShapes (relation_shapes net) db
+        → (holds (foreign_sentence (columns (relation_shapes net) rel) (columns (relation_shapes net) to) rel fields to to_fields) db [] ≡ true) ↔ IsForeignKey db rel fields to to_fields }
 {}
