@@ -6,4 +6,5 @@ pub mod NamedMore
 pub mod TransitionLaws
 pub mod WritingLaws
 pub mod SameText
+pub mod GoodLaws
 pub mod SmallNets

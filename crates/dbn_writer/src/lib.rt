@@ -9,5 +9,5 @@ mod transitions;
 mod words;
 mod writing;
 
-pub use laws::same_text_same_state;
+pub use laws::{good_states_can_be_written, same_text_same_state};
 pub use writing::net_text;
