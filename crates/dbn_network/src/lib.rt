@@ -14,3 +14,6 @@ mod tables;
 
 pub use input::Input;
 pub use network::Network;
+
+#[cfg(test)]
+mod tests;
