@@ -32,7 +32,8 @@ use std::collections::BTreeSet;
 /// each variable, quantified or not, ranges over the values of its type in the instance and the formula. They ascend, each
 /// once. An error is want of memory.
 ///
-/// Where the formula is safe as a query, these values aren't listed, but for variables of `vars` that are not free in it.
+/// Where the formula is safe as a query and no variable stands twice in `vars`, these values aren't listed, but for variables
+/// of `vars` that are not free in it.
 #[tactic(auto, using(crate::proofs::GivenLaws::answers_found))]
 pub fn answers(
     alloc: Global,

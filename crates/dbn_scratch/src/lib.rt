@@ -8,5 +8,7 @@ mod domains;
 mod listing;
 mod solving;
 mod tables;
+#[cfg(test)]
+mod tests;
 
 pub use answering::{answers, holds};
