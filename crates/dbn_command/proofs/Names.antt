@@ -12,7 +12,7 @@ use Rattle.dbn_sexp.specs.declared.sexp.Item.TheVariants as item
 use Rattle.dbn_sexp.specs.Printing.{atoms}
 use Rattle.dbn_sexp.proofs.TreeLaws.{atoms_name, atoms_list}
 use Rattle.dbn_sexp.proofs.PartLaws.{word_name}
-use Rattle.dbn_net.specs.declared.written.Rule.{Rule}
+use Rattle.dbn_net.specs.declared.written.WrittenTransition.{WrittenTransition}
 use Rattle.dbn_net.specs.declared.written.Written.{Written}
 use Rattle.dbn_net.specs.declared.written.Written.TheVariants as written
 use Rattle.dbn_net.specs.declared.rules.Transition.{Transition}
@@ -21,9 +21,9 @@ use Rattle.dbn_net.specs.declared.decl.Decl.TheVariants as decl
 use Rattle.dbn_net.specs.declared.decl.Entry.TheVariants.{Part}
 use Rattle.dbn_net.specs.Maybe.{◌>>=◌, only_if}
 use Rattle.dbn_net.specs.Forms.{Name, name_in, transition_of, declaration_in}
-use Rattle.dbn_net.specs.Printing.{word, rule_parts, sexp_of}
+use Rattle.dbn_net.specs.Printing.{word, written_transition_parts, sexp_of}
 use Rattle.dbn_net.specs.Tables.{Table, transition_in, relations, places, transitions, relation_names, place_names, transition_names, place_name}
-use Rattle.dbn_net.specs.Naming.{rule}
+use Rattle.dbn_net.specs.Naming.{written_transition}
 use Rattle.dbn_net.specs.Judging.{is_short, short_names, short_lists, few_of_kind, is_new}
 use Rattle.dbn_net.specs.WellFormed.{AllPass, WellFormed}
 use Rattle.dbn_net.proofs.Maybes.{first_found, if_found}
@@ -37,9 +37,9 @@ use Rattle.dbn_net.proofs.RoundPlaces.{known_places}
 
 -- ---- a transition's name
 
-rule_plain : (r : Rule) (w : Written) → declaration_in (sexp_of (written.Transition r)) ≡ Some w → IsPlain r.name
-rule_plain r w e =
-    let parts : transition_of (rule_parts r) ≡ Some w = sym (declared_parts (codes "transition") (rule_parts r)) ∙ e in
+written_transition_plain : (r : WrittenTransition) (w : Written) → declaration_in (sexp_of (written.Transition r)) ≡ Some w → IsPlain r.name
+written_transition_plain r w e =
+    let parts : transition_of (written_transition_parts r) ≡ Some w = sym (declared_parts (codes "transition") (written_transition_parts r)) ∙ e in
     let found = first_found (name_in (word r.name)) _ w parts in
     let kept : only_if (is_identifier r.name) r.name ≡ Some found.0 = ap (λ o. o >>= λ n. only_if (is_identifier n) n) (sym (word_name 0 r.name)) ∙ found.1 in
     (if_found (is_identifier r.name) (Some r.name) found.0 kept).0
@@ -74,7 +74,7 @@ pub known_transitions : (before decls : List Decl) → AllPass before decls → 
 known_transitions before [] all = tt
 known_transitions before (decl.Trans t ∷ decls) all =
     let d : Decl = decl.Trans t in
-    let r : Rule = rule before t in
+    let r : WrittenTransition = written_transition before t in
     let w : Written = written.Transition r in
     let passed = judged_is before no_begun w (Part d) (all.0.tests no_begun) in
     let short = (and_parts (short_names w) (short_lists w) (and_parts (short_names w && short_lists w) (few_of_kind before w) passed.limits).0).0 in
@@ -82,7 +82,7 @@ known_transitions before (decl.Trans t ∷ decls) all =
     let whole : transition_names (before ++ d ∷ decls) ≡ transition_names before ++ t.name ∷ transition_names decls = names_append before (d ∷ decls) in
     let longer : length (transition_names (before ++ d ∷ [])) ≡ length (transition_names before) + 1 = ap length (names_append before (d ∷ [])) ∙ length-append (transition_names before) (t.name ∷ []) in (
       subst (λ w. Known w (length (transition_names before))) (sym whole)
-          (known_at (transition_names before) t.name (transition_names decls) (rule_plain r w all.0.shape) (second_short (codes "transition") t.name _ short refl) new),
+          (known_at (transition_names before) t.name (transition_names decls) (written_transition_plain r w all.0.shape) (second_short (codes "transition") t.name _ short refl) new),
       subst (λ n. AllKnown (transition_names (before ++ d ∷ decls)) n (transition_names decls)) longer
           (subst (λ w. AllKnown (transition_names w) (length (transition_names (before ++ d ∷ []))) (transition_names decls)) (append_assoc before (d ∷ []) decls) (known_transitions (before ++ d ∷ []) decls all.1)),
     )
