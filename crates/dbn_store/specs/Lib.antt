@@ -1,0 +1,3 @@
+pub mod States
+pub mod Folders
+pub mod Opening
