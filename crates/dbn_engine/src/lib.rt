@@ -1,0 +1,10 @@
+//! One command over a core and a keeper: its reply, the next state of the run, and what a crash leaves.
+#![tactic(auto)]
+
+mod fault;
+mod laws;
+mod serving;
+
+pub use fault::ServeFault;
+pub use laws::lines_without_a_reply_change_nothing;
+pub use serving::Serve;
