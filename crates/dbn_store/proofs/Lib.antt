@@ -1,3 +1,4 @@
 mod Examples
 pub mod Members
 pub mod Replays
+pub mod Starts

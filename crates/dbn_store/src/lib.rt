@@ -3,8 +3,10 @@
 
 mod fault;
 mod laws;
+mod open;
 mod replay;
 
 pub use fault::StoreFault;
 pub use laws::{a_new_base_stands_for_its_state, one_more_body_is_one_more_group};
+pub use open::open_read;
 pub use replay::replay_all;
