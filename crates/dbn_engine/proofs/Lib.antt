@@ -1,2 +1,4 @@
+pub mod Asked
 mod Examples
+pub mod Firings
 pub mod Silent

@@ -6,5 +6,5 @@ mod laws;
 mod serving;
 
 pub use fault::ServeFault;
-pub use laws::lines_without_a_reply_change_nothing;
+pub use laws::{lines_ask_for_what_the_net_has, lines_without_a_reply_change_nothing};
 pub use serving::Serve;
