@@ -1,0 +1,5 @@
+pub mod ListingLaws
+pub mod ViewLaws
+pub mod LoopLaws
+pub mod MadeLaws
+pub mod JoinLaws
