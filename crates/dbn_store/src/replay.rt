@@ -129,7 +129,7 @@ fn advance<C: Core, K: Keeper>(
 /// Fires the bodies that the keeper has still to hand out, one group after the other.
 ///
 /// At `Ok` the core stands for what the folder stands for, and the keeper is at its end. `Damaged` comes exactly where one of
-/// the bodies is damaged, with the place of its gate; the keeper stays live then. `NotAStore` never comes. `Failed` comes only
+/// the bodies is damaged, with the place of its gate. `NotAStore` never comes. `Failed` comes only
 /// where a count of faults rose. What is held and all images stay, with every answer.
 #[tactic(auto, using(crate::proofs::Members::same_files_on, crate::proofs::Members::keeps_on, crate::proofs::Replays::same_header_on))]
 pub fn replay_all<C: Core, K: Keeper>(
