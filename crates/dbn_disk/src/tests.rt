@@ -46,17 +46,6 @@ fn a_disk_in_memory_holds_what_is_written(rt: HostRuntime) -> Result<(), Fail> {
     Ok(())
 }
 
-#[test]
-fn a_disk_in_memory_fails_at_its_calls(rt: HostRuntime) -> Result<(), Fail> {
-    let mut disk = memory(rt.alloc(), b"abc", [0, 2, 3].as_slice())?;
-    assert_eq!(rt; disk.write_at(0, b"x"), Err(Trouble::Failed));
-    assert_eq!(rt; disk.cut(1), Ok(()));
-    assert_eq!(rt; disk.sync(), Err(Trouble::Failed));
-    assert_eq!(rt; disk.cut(0), Err(Trouble::Failed));
-    assert!(rt; holds(&mut disk, b"a"));
-    Ok(())
-}
-
 // What stands after a write of two bytes at place 1 of three and a cut to 2, at each moment, with loose bytes.
 #[test]
 fn images_have_the_bytes_that_are_picked(rt: HostRuntime) -> Result<(), Fail> {

@@ -14,11 +14,32 @@ fn term(alloc: Global, letter: u8) -> Result<Term, ValueFault> {
     Ok(Term::Var(Var { name, mark: 0 }))
 }
 
-fn int_var(alloc: Global, letter: u8) -> Result<TypedVars, ValueFault> {
-    let name = Name::from_bytes(alloc, [letter].as_slice())?;
+/// These letters as variables of type int.
+fn int_vars(alloc: Global, letters: &[u8]) -> Result<TypedVars, ValueFault> {
     let mut vars: TypedVars = Items::new(alloc);
-    vars.push((Var { name, mark: 0 }, ColType::Int))?;
+    for letter in letters {
+        let name = Name::from_bytes(alloc, [*letter].as_slice())?;
+        vars.push((Var { name, mark: 0 }, ColType::Int))?;
+    }
     Ok(vars)
+}
+
+/// These letters as terms.
+fn terms(alloc: Global, letters: &[u8]) -> Result<Terms, ValueFault> {
+    let mut terms: Terms = Items::new(alloc);
+    for letter in letters {
+        terms.push(term(alloc, *letter)?)?;
+    }
+    Ok(terms)
+}
+
+/// As many columns of integers.
+fn ints(alloc: Global, count: usize) -> Result<Shape, AllocError> {
+    let mut shape: Shape = Items::new(alloc);
+    for _ in 0..count {
+        shape.push(ColType::Int)?;
+    }
+    Ok(shape)
 }
 
 fn one_part(alloc: Global, part: Formula) -> Result<Formulas, AllocError> {
@@ -29,27 +50,24 @@ fn one_part(alloc: Global, part: Formula) -> Result<Formulas, AllocError> {
 
 /// (Q x)
 fn q(alloc: Global) -> Result<Formula, ValueFault> {
-    let mut terms: Terms = Items::new(alloc);
-    terms.push(term(alloc, b'x')?)?;
+    let terms = terms(alloc, b"x")?;
     Ok(Formula::Atom { rel: 1, terms })
 }
 
-/// (R x y)
+/// (R x y a b c d e f g h)
 fn r(alloc: Global) -> Result<Formula, ValueFault> {
-    let mut terms: Terms = Items::new(alloc);
-    terms.push(term(alloc, b'x')?)?;
-    terms.push(term(alloc, b'y')?)?;
+    let terms = terms(alloc, b"xyabcdefgh")?;
     Ok(Formula::Atom { rel: 0, terms })
 }
 
-/// (exists ((y int)) (R x y))
+/// (exists ((y int) (a int) .. (h int)) (R x y a .. h))
 fn some(alloc: Global) -> Result<Formula, ValueFault> {
-    let vars = int_var(alloc, b'y')?;
+    let vars = int_vars(alloc, b"yabcdefgh")?;
     let body = Boxed::new(alloc, r(alloc)?)?;
     Ok(Formula::Exists { vars, body })
 }
 
-/// (implies (R x y) (or (= y 7)))
+/// (implies (R x y a .. h) (or (= y 7)))
 fn seven(alloc: Global) -> Result<Formula, ValueFault> {
     let left = term(alloc, b'y')?;
     let test = Formula::Test {
@@ -61,15 +79,15 @@ fn seven(alloc: Global) -> Result<Formula, ValueFault> {
     Ok(Formula::Implies(Boxed::new(alloc, r(alloc)?)?, right))
 }
 
-/// (forall ((y int)) (implies (R x y) (or (= y 7))))
+/// (forall ((y int) (a int) .. (h int)) (implies (R x y a .. h) (or (= y 7))))
 fn each(alloc: Global) -> Result<Formula, ValueFault> {
-    let vars = int_var(alloc, b'y')?;
+    let vars = int_vars(alloc, b"yabcdefgh")?;
     let body = Boxed::new(alloc, seven(alloc)?)?;
     Ok(Formula::Forall { vars, body })
 }
 
-/// (and (not (exists ((y int)) (R x y))) (forall ((y int)) (implies (R x y) (or (= y 7)))) (Q x)): every kind of formula,
-/// and only the last part gives the free variable a value.
+/// (and (not (exists (..) (R x y ..))) (forall (..) (implies (R x y ..) (or (= y 7)))) (Q x)): every kind of formula, ten
+/// variables, a constant, and only the last part gives the free variable a value.
 fn every_kind(alloc: Global) -> Result<Formula, ValueFault> {
     let mut parts = one_part(alloc, Formula::Not(Boxed::new(alloc, some(alloc)?)?))?;
     parts.push(each(alloc)?)?;
@@ -77,16 +95,11 @@ fn every_kind(alloc: Global) -> Result<Formula, ValueFault> {
     Ok(Formula::And(parts))
 }
 
-/// R has two columns of integers, Q has one.
+/// R has ten columns of integers, Q has one.
 fn shapes(alloc: Global) -> Result<Shapes, AllocError> {
-    let mut two: Shape = Items::new(alloc);
-    two.push(ColType::Int)?;
-    two.push(ColType::Int)?;
-    let mut one: Shape = Items::new(alloc);
-    one.push(ColType::Int)?;
     let mut rels: Shapes = Items::new(alloc);
-    rels.push(two)?;
-    rels.push(one)?;
+    rels.push(ints(alloc, 10)?)?;
+    rels.push(ints(alloc, 1)?)?;
     Ok(rels)
 }
 
@@ -142,7 +155,7 @@ fn every_kind_is_a_query(rt: HostRuntime) -> Result<(), ValueFault> {
 #[test]
 fn every_kind_is_well_typed(rt: HostRuntime) -> Result<(), ValueFault> {
     let f = every_kind(rt.alloc())?;
-    let scope = int_var(rt.alloc(), b'x')?;
+    let scope = int_vars(rt.alloc(), b"x")?;
     let rels = shapes(rt.alloc())?;
     assert!(rt; type_check(rt.alloc(), &f, &scope, &rels) == Ok(()));
     assert!(rt; arity_fits(&f, &rels) && types_fit(&f, scope.as_slice(), &rels));
@@ -152,7 +165,7 @@ fn every_kind_is_well_typed(rt: HostRuntime) -> Result<(), ValueFault> {
 #[test]
 fn a_term_has_the_type_of_its_column(rt: HostRuntime) -> Result<(), ValueFault> {
     let terms = [Term::Const(Value::Int(7))];
-    let scope = int_var(rt.alloc(), b'x')?;
+    let scope = int_vars(rt.alloc(), b"x")?;
     assert!(rt;
         terms_fit(
             terms.as_slice(),
@@ -173,7 +186,7 @@ fn a_term_has_the_type_of_its_column(rt: HostRuntime) -> Result<(), ValueFault> 
 #[test]
 fn the_free_variable_is_found(rt: HostRuntime) -> Result<(), ValueFault> {
     let f = every_kind(rt.alloc())?;
-    let scope = int_var(rt.alloc(), b'x')?;
+    let scope = int_vars(rt.alloc(), b"x")?;
     assert!(rt; all_bound(rt.alloc(), &f, scope.as_slice()) == Ok(true));
     let found = free(rt.alloc(), &f)?;
     assert!(rt;
@@ -198,7 +211,7 @@ fn what_every_kind_writes(rt: HostRuntime) -> Result<(), ValueFault> {
 fn each_variable_stands_once(rt: HostRuntime) -> Result<(), ValueFault> {
     let f = every_kind(rt.alloc())?;
     assert!(rt; distinct(rt.alloc(), &f) == Ok(true));
-    let scope = int_var(rt.alloc(), b'x')?;
+    let scope = int_vars(rt.alloc(), b"x")?;
     assert!(rt; distinct_vars(rt.alloc(), scope.as_slice()) == Ok(true));
     Ok(())
 }

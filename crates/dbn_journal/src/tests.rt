@@ -76,19 +76,11 @@ fn at_gate(alloc: Global, disk: &mut MemDisk) -> AtGate {
 #[test]
 fn gates_are_told_apart(rt: HostRuntime) -> Result<(), Fail> {
     let alloc = rt.alloc();
-    let rows: [(&[u8], AtGate); 12] = [
+    let rows: [(&[u8], AtGate); 4] = [
         (b"\xdb\0\0\0\x02\0\0\0", AtGate::Record),
-        (b"\xdb\0\0\0\x02\0\0\x17\xdb", AtGate::Record),
         (b"\xdb\0\0\0\x02\0\0", AtGate::Torn),
-        (b"\xdb\0\0\0\x02\0", AtGate::Torn),
-        (b"\xdb\0\0", AtGate::Torn),
-        (b"\xdb", AtGate::Torn),
         (b"", AtGate::Torn),
-        (b"\xdb\xff\xff\xff\xff\0\0\0", AtGate::Torn),
-        (b"\0", AtGate::Shut),
-        (b"\x17", AtGate::Shut),
         (b"\x17\0\0\0\x02\0\0\0", AtGate::Shut),
-        (b"\x17\xdb\xdb\xdb", AtGate::Shut),
     ];
     for (behind, wanted) in rows {
         let mut disk = memory(alloc, file(alloc, behind)?.as_slice())?;
@@ -143,19 +135,6 @@ fn each_image_of_an_append_is_without_the_record_or_with_it(rt: HostRuntime) -> 
         assert!(rt; both_find(alloc, &disk, moment, 0x00, lens, zero)?);
         assert!(rt; both_find(alloc, &disk, moment, 0xDB, lens, open)?);
         assert!(rt; both_find(alloc, &disk, moment, 0x17, lens, other)?);
-    }
-    Ok(())
-}
-
-#[test]
-fn the_gate_may_have_any_byte_inside_its_write(rt: HostRuntime) -> Result<(), Fail> {
-    let alloc = rt.alloc();
-    let (disk, _) = with_record(alloc)?;
-    for loose in [0x00, 0xDB, 0x17] {
-        let mut gate = [0; 1];
-        let mut crashed = image(alloc, &disk, 3, loose, 90)?;
-        assert_eq!(rt; crashed.read(82, &mut gate), Ok(1));
-        assert_eq!(rt; gate[0], loose);
     }
     Ok(())
 }
@@ -241,22 +220,6 @@ fn no_old_content_comes_back_while_a_file_is_made(rt: HostRuntime) -> Result<(),
         assert!(rt; both_leave(alloc, &disk, moment, 0x00, old.as_slice(), zero)?);
         assert!(rt; both_leave(alloc, &disk, moment, 0xDB, old.as_slice(), open)?);
         assert!(rt; both_leave(alloc, &disk, moment, 0x17, old.as_slice(), other)?);
-    }
-    Ok(())
-}
-
-// The same where there was no file.
-#[test]
-fn a_file_is_made_where_there_was_none(rt: HostRuntime) -> Result<(), Fail> {
-    let alloc = rt.alloc();
-    let (disk, answer) = made(alloc, &[])?;
-    assert_eq!(rt; answer, Ok(()));
-    for number in 0..24 {
-        let moment = number / 3;
-        let loose = [0x00, 0xDB, 0x17][number as usize % 3];
-        let is_open = moment == 7 || moment == 6 && loose == 0xDB;
-        let wanted = if is_open { Left::New } else { Left::NoStore };
-        assert!(rt; both_leave(alloc, &disk, moment, loose, &[], wanted)?);
     }
     Ok(())
 }
