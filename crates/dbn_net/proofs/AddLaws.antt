@@ -207,7 +207,7 @@ denials_more net d ok p =
 
 -- ---- values
 
-rules_past : (net : List Decl) (d : Decl) → past_ids (rule_values (net ++ d ∷ [])) ≡ max (past_ids (rule_values net)) (past_ids (decl_constants d))
+pub rules_past : (net : List Decl) (d : Decl) → past_ids (rule_values (net ++ d ∷ [])) ≡ max (past_ids (rule_values net)) (past_ids (decl_constants d))
 rules_past net d =
     ap past_ids (flat_map-append decl_constants net (d ∷ []) ∙ ap (λ l. rule_values net ++ l) (append-nil (decl_constants d)))
     ∙ past_append (rule_values net) (decl_constants d)

@@ -41,4 +41,9 @@ pub mod RowCells
 pub mod KeyLaws
 pub mod ForeignLaws
 pub mod NetKeys
+pub mod SentenceTypes
+pub mod LimitLaws
+pub mod RangeLaws
+pub mod WrittenValues
+pub mod StartLaws
 mod EnabledExamples

@@ -27,7 +27,7 @@ past_one n (value.Int i) e = omega arith
 past_one n (value.Text bytes) e = omega arith
 past_one n (value.Id i) e = let less : i < n = ltb-true i n e in omega (arith, less)
 
-past_within : (n : ℕ) (vs : List Value) → ids_below n vs ≡ true → past_ids vs ≤ n
+pub past_within : (n : ℕ) (vs : List Value) → ids_below n vs ≡ true → past_ids vs ≤ n
 past_within n [] e = omega arith
 past_within n (v ∷ vs) e =
     let parts = and_parts (id_below n v) (ids_below n vs) e in

@@ -84,7 +84,7 @@ none_broken db (l ∷ ls) (f ∷ fs) e =
     let parts = and_parts (holds f db []) (list_all (λ g. holds g db []) fs) e in
     ap (λ b. if b then first_broken db (zip ls fs) else Some l) parts.0 ∙ none_broken db ls fs parts.1
 
-reads_is : (bytes : List ℕ) → reads bytes ≡ read_list (sexps.reads 64 bytes)
+pub reads_is : (bytes : List ℕ) → reads bytes ≡ read_list (sexps.reads 64 bytes)
 unfolding reads
 reads_is bytes = refl
 

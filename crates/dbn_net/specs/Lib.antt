@@ -15,3 +15,5 @@ pub mod Codes
 pub mod Wants
 pub mod Enabled
 pub mod Good
+pub mod Limits
+pub mod Starts
