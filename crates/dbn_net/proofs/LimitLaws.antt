@@ -23,7 +23,7 @@ use Rattle.dbn_net.specs.declared.decl.Decl.{Decl}
 use Rattle.dbn_net.specs.declared.decl.Decl.TheVariants.{Relation, Key, Foreign, Always, Query, Act, Site, Trans}
 use Rattle.dbn_net.specs.Tables.{Table, Question, relation_in, query_in, action_in, place_in, transition_in, relations, queries, actions, places, transitions, columns, types_of, relation_shape, relation_shapes, query_shapes, action_shapes, place_shape, place_shapes, given, shape_of}
 use Rattle.dbn_net.specs.Naming.{named, written_transition}
-use Rattle.dbn_net.specs.Judging.{bound_vars, is_small, is_few, short_lists, few_of_kind, within_limits}
+use Rattle.dbn_net.specs.Judging.{bound_vars, is_small, short_lists, few_of_kind}
 use Rattle.dbn_net.specs.Sentences.{sentence_in, labelled_sentences}
 use Rattle.dbn_net.specs.WellFormed.{Passes, AllPass, WellFormed}
 use Rattle.dbn_net.specs.Limits.{IsSmallNet, HasFewColumns, HasFewVariables}

@@ -1,12 +1,12 @@
 -- What a text is read as is a net with a good snapshot.
-use Rattle.std.proofs.Common.{◌≡◌, ℕ, ℤ, ◌+◌, ◌<◌, ◌≤◌, ◌^◌, zero, suc, Bool, true, false, cond, ◌&&◌, ◌==◌, if◌then◌else◌, List, [], ◌∷◌, ◌++◌, map, refl, sym, ap, subst, ◌∙◌, ◌⊎◌, inl, inr, ⊎_elim, Option, Some, None, arith, length, length-append, append-nil, append_assoc}
-use Rattle.std.specs.Prelude.{Result, Ok, Err, max, slice_get, slice_index_or, slice_set, nat_le, nat_lt}
+use Rattle.std.proofs.Common.{◌≡◌, ℕ, ℤ, ◌+◌, ◌<◌, ◌≤◌, ◌^◌, zero, suc, Bool, true, false, ◌&&◌, ◌==◌, if◌then◌else◌, List, [], ◌∷◌, ◌++◌, map, refl, sym, ap, subst, ◌∙◌, ◌⊎◌, inl, inr, ⊎_elim, Option, Some, None, arith, length, length-append, append-nil, append_assoc}
+use Rattle.std.specs.Prelude.{Result, Ok, Err, max, slice_index_or, slice_set, nat_le}
 use Rattle.std.specs.List.{flat_map, filter_map, list_all, AllByRecursion, zip}
-use Rattle.std.specs.Option.{option_map, option_map_or}
+use Rattle.std.specs.Option.{option_map}
 use Rattle.std.specs.Map.{keys_of}
 use Rattle.std.specs.BTreeSet.{insert_key}
 use Rattle.std.proofs.lemmas.Bool.{and_parts, eqb-true, leb-true, not-true}
-use Rattle.std.proofs.lemmas.List.{length-map, map-append}
+use Rattle.std.proofs.lemmas.List.{length-map}
 use Rattle.std.proofs.lemmas.Grind.{flat_map-append}
 use Rattle.dbn_value.specs.Members.{In}
 use Rattle.dbn_value.specs.Order.{value_cmp, value_total, value_type, row_cmp, rows_total, exact_rows}
@@ -28,10 +28,10 @@ use Rattle.dbn_formula.specs.Answers.{holds, values_in}
 use Rattle.dbn_formula.specs.Solutions.{HasShape}
 use Rattle.dbn_formula.specs.declared.formula.Formula.{Formula}
 use Rattle.dbn_formula.proofs.VariableLaws.{type_same}
-use Rattle.dbn_instance.specs.Facts.{IsInstance, rows_of, with_fact}
+use Rattle.dbn_instance.specs.Facts.{IsInstance, rows_of, has_fact, with_fact}
 use Rattle.dbn_instance.specs.declared.fact.Fact.{Fact}
 use Rattle.dbn_instance.proofs.FactLaws.{instance_either, instance_with}
-use Rattle.dbn_marking.specs.Counts.{IsCounted, IsMarking, place_of, count_of, count_at, added, with_tokens}
+use Rattle.dbn_marking.specs.Counts.{IsMarking, place_of, count_of, count_at, added, with_tokens}
 use Rattle.dbn_marking.proofs.CountLaws.{marking_more, marking_given}
 use Rattle.dbn_net.specs.declared.fault.NetKind.{NetKind}
 use Rattle.dbn_net.specs.declared.violation.Named.{Named}
@@ -45,27 +45,27 @@ use Rattle.dbn_net.specs.declared.decl.Entry.{Entry}
 use Rattle.dbn_net.specs.declared.decl.Entry.TheVariants.{Part, Tokens}
 use Rattle.dbn_net.specs.declared.decl.Entry.TheVariants as entry
 use Rattle.dbn_net.specs.Forms.{Name, declaration_in}
-use Rattle.dbn_net.specs.Printing.{no_lines, sexp_of}
+use Rattle.dbn_net.specs.Printing.{sexp_of}
 use Rattle.dbn_net.specs.Tables.{relation_in, place_in, relations, relation_names, relation_shape, relation_shapes, query_names, query_shapes, place_names, place_shape, place_shapes, places, columns, is_control, has_place}
-use Rattle.dbn_net.specs.Naming.{number_of, control_number, count, resolved_formula, resolved_key, resolved_foreign, resolved_action, transition, resolved, named}
-use Rattle.dbn_net.specs.Judging.{Begun, as_many, row_fits, is_count, token_is_new, no_duplicate, judged}
-use Rattle.dbn_net.specs.Sentences.{sentence_in, sentences, labelled_sentences, consistent}
-use Rattle.dbn_net.specs.WellFormed.{Passes, WellFormed}
+use Rattle.dbn_net.specs.Naming.{number_of, control_number, count, resolved_formula, resolved_key, resolved_foreign, resolved_action, transition, resolved}
+use Rattle.dbn_net.specs.Judging.{Begun, row_fits, is_count, fact_is_new, token_is_new, no_duplicate, judged}
+use Rattle.dbn_net.specs.Sentences.{sentence_in, sentences, labelled_sentences}
+use Rattle.dbn_net.specs.WellFormed.{Passes}
 use Rattle.dbn_net.specs.Values.{Marking, decl_constants, rule_values, token_values, all_values, ids_below, past_ids, next_after}
-use Rattle.dbn_net.specs.Texts.{State, Fault, Start, nothing, fault, value_in, more_facts, more_tokens, sentence_lines, with_entry, taken_up, read_shape, read_one, read_each, and_then, first_broken, next_of, values_of, tested, finished, read_list, reads}
-use Rattle.dbn_net.specs.Good.{RowsFit, PlaceFits, TokensFit, Good}
-use Rattle.dbn_net.specs.Starts.{IsSound, first_snapshot, IsGoodStart}
+use Rattle.dbn_net.specs.Texts.{State, Fault, Start, nothing, value_in, more_facts, more_tokens, sentence_lines, with_entry, taken_up, read_shape, read_one, read_each, and_then, first_broken, next_of, tested, finished, read_list, reads}
+use Rattle.dbn_net.specs.Good.{RowsFit, PlaceFits, TokensFit}
+use Rattle.dbn_net.specs.Starts.{IsNewFact, AreNewTokens, IsSound, IsGoodStart}
 use Rattle.dbn_net.proofs.Maybes.{some_is, mapped_found}
 use Rattle.dbn_net.proofs.Listed.{get_within}
 use Rattle.dbn_net.proofs.LiftLaws.{has_within}
 use Rattle.dbn_net.proofs.NamedLaws.{number_within}
 use Rattle.dbn_net.proofs.MadeLaws.{site_has}
 use Rattle.dbn_net.proofs.DeclaredAgain.{declaration_found}
-use Rattle.dbn_net.proofs.JudgedLaws.{Judged, judged_is}
+use Rattle.dbn_net.proofs.JudgedLaws.{judged_is}
 use Rattle.dbn_net.proofs.PassesLaws.{named_again, read_passes}
 use Rattle.dbn_net.proofs.BackLaws.{one_more}
 use Rattle.dbn_net.proofs.AddLaws.{grow, filter_grow, map_grow, rules_past}
-use Rattle.dbn_net.proofs.NextLaws.{past_append, past_all, next_is_past}
+use Rattle.dbn_net.proofs.NextLaws.{past_append, next_is_past}
 use Rattle.dbn_net.proofs.RoundText.{reads_is}
 use Rattle.dbn_net.proofs.LimitLaws.{sentences_as_many}
 use Rattle.dbn_net.proofs.RangeLaws.{next_small}
@@ -559,6 +559,46 @@ few_enough before many none counts =
     let some : 1 ≤ many = leb-true 1 many p.0 in
     let small : many ≤ 4294967295 = leb-true many 4294967295 p.1 in
     (omega (arith, some), omega (arith, zero_is, small))
+
+-- what a fact and tokens that were judged are
+pub fact_judged_is : (net : List Decl) (begun : Begun) (w : Written) (n : ℕ) (row : List Value) → judged net begun w ≡ Ok (entry.Fact n row) → IsNewFact net begun n row
+fact_judged_is net begun w n row passed =
+    let j = judged_is net begun w (entry.Fact n row) passed in
+    let was = fact_was net w n row j.is in
+    let new : fact_is_new begun row (Some n) ≡ true =
+    subst (λ o. fact_is_new begun row o ≡ true) was.number (subst (λ (y : Written). no_duplicate net begun y ≡ true) was.is j.once) in
+    record {
+      known = subst (λ k. n < k) (length-map (relations net) (λ r. r.name)) (number_within (relation_names net) was.name n was.number);
+      shape = row_shaped row (columns (relation_shapes net) n) (eqb-true (length row) (length (columns (relation_shapes net) n)) j.passed.arity) j.passed.typed;
+      is_new = not-true (has_fact value_cmp begun.facts (record { rel = n; row = row })) new;
+    }
+
+pub tokens_judged_are : (net : List Decl) (begun : Begun) (w : Written) (n many : ℕ) (row : List Value) → judged net begun w ≡ Ok (Tokens n many row) → AreNewTokens net begun n many row
+tokens_judged_are net begun w n many row passed =
+    let j = judged_is net begun w (Tokens n many row) passed in
+    let was = token_was net w n many row j.is in
+    let has : has_place is_control (places net) n ≡ true = site_has is_control (places net) (number_of (place_names net) was.name) n was.number in
+    let site = has_within is_control (places net) n has in
+    let new : token_is_new begun row (Some n) ≡ true =
+    subst (λ o. token_is_new begun row o ≡ true) was.number (subst (λ (y : Written). no_duplicate net begun y ≡ true) was.is j.once) in
+    let none : count_at row_cmp begun.tokens n row ≡ 0 = eqb-true (count_at row_cmp begun.tokens n row) 0 new in
+    let enough = few_enough (count_at row_cmp begun.tokens n row) many new j.passed.counted in
+    let small : count_at row_cmp begun.tokens n row + many < 2 ^ 32 = enough.1 in
+    record {
+      known = get_within (places net) n site.0 site.1;
+      control = has;
+      shape = row_shaped row (columns (place_shapes net) n) (eqb-true (length row) (length (columns (place_shapes net) n)) j.passed.arity) j.passed.typed;
+      some = enough.0;
+      small = omega (arith, none, small);
+      are_new = none;
+    }
+
+-- a sound state has rows for each relation and tokens for each place
+pub sound_sizes : (list : List Sexp) (s : State) → IsSound list s → (length s.begun.facts ≡ length (relations s.decls)) × (length s.begun.tokens ≡ length (places s.decls))
+sound_sizes list s sound = (
+  rows_length s.begun.facts (relation_shapes s.decls) sound.facts_fit ∙ length-map (relations s.decls) relation_shape,
+  tokens_length s.begun.tokens (places s.decls) sound.tokens_fit,
+)
 
 entry_step : (list : List Sexp) (s : State) (one : Sexp) (w : Written) (x : Entry) → IsSound list s → nesting one.item ≤ 64 → declaration_in one ≡ Some w → judged s.decls s.begun w ≡ Ok x
     → IsSound (list ++ one ∷ []) (with_entry one.line s x)

@@ -1,6 +1,5 @@
 -- The constants of a declaration are words of its text, and its first free id is that of its text.
-use Rattle.std.proofs.Common.{◌≡◌, ℕ, ◌≤◌, Bool, true, List, [], ◌∷◌, ◌++◌, map, refl, sym, ap, ◌∙◌, subst, inl, inr, ⊎_elim, Option, Some, None, pos, ℤ, codes, arith, append-nil}
-use Rattle.std.specs.Prelude.{max}
+use Rattle.std.proofs.Common.{◌≡◌, ℕ, ◌≤◌, List, [], ◌∷◌, ◌++◌, map, refl, sym, ap, ◌∙◌, subst, ⊎_elim, Option, Some, None, ℤ, codes, arith}
 use Rattle.std.specs.List.{flat_map, AllByRecursion}
 use Rattle.std.specs.Option.{option_map, option_map_or}
 use Rattle.std.proofs.lemmas.Grind.{flat_map-append}
@@ -37,7 +36,7 @@ use Rattle.dbn_net.specs.declared.decl.Decl.TheVariants as decl
 use Rattle.dbn_net.specs.Forms.{Name}
 use Rattle.dbn_net.specs.Printing.{word, constant, list, form, term_sexp, scope_sexp, formula_sexp, comparison_word, written_atom_parts, written_atom_sexp, written_pattern_sexp, written_arc_parts, input_sexp, guard_sexps, ask_sexps, fresh_sexps, call_sexps, written_transition_parts, sexp_of}
 use Rattle.dbn_net.specs.Tables.{relation_names}
-use Rattle.dbn_net.specs.Naming.{control_number, view_number, name_at, named_formula, pattern, arc, read, ins_of, reads_of, written_pattern, written_arc, written_read, written_call, written_transition, written_fact, named}
+use Rattle.dbn_net.specs.Naming.{control_number, view_number, name_at, named_formula, pattern, arc, read, ins_of, reads_of, written_pattern, written_arc, written_call, written_transition, written_fact, named}
 use Rattle.dbn_net.specs.Values.{id_below, constants_of, arc_constants, fact_constants, transition_constants, decl_constants, past_ids}
 use Rattle.dbn_net.specs.WellFormed.{Passes}
 use Rattle.dbn_net.specs.Texts.{value_in, values_of}

@@ -1,17 +1,36 @@
 -- What holds of a net and its start snapshot while they are read.
-use Rattle.std.specs.Prelude.{◌≡◌, List, length}
+use Rattle.std.specs.Prelude.{◌≡◌, ℕ, ◌<◌, ◌^◌, true, false, List, length}
 use Rattle.std.specs.List.{AllByRecursion}
 use Rattle.dbn_value.specs.Order.{value_cmp, row_cmp}
+use Rattle.dbn_value.specs.declared.value.Value.{Value}
 use Rattle.dbn_sexp.specs.declared.sexp.Sexp.{Sexp}
-use Rattle.dbn_instance.specs.Facts.{IsInstance}
-use Rattle.dbn_marking.specs.Counts.{IsCounted}
+use Rattle.dbn_formula.specs.Solutions.{HasShape}
+use Rattle.dbn_instance.specs.Facts.{IsInstance, has_fact}
+use Rattle.dbn_marking.specs.Counts.{IsCounted, count_at}
 use Rattle.dbn_net.specs.declared.snapshot.Snapshot.{Snapshot}
-use Rattle.dbn_net.specs.Tables.{relation_shapes, places}
+use Rattle.dbn_net.specs.declared.decl.Decl.{Decl}
+use Rattle.dbn_net.specs.Tables.{relations, relation_shapes, places, place_shapes, columns, is_control, has_place}
+use Rattle.dbn_net.specs.Judging.{Begun}
 use Rattle.dbn_net.specs.Sentences.{sentences}
 use Rattle.dbn_net.specs.WellFormed.{WellFormed}
 use Rattle.dbn_net.specs.Values.{next_after}
 use Rattle.dbn_net.specs.Texts.{State, Start, next_of}
 use Rattle.dbn_net.specs.Good.{RowsFit, TokensFit, Good}
+
+-- a row of a relation of the net, of its shape, that is not there yet
+pub record IsNewFact (net : List Decl) (begun : Begun) (rel : ℕ) (row : List Value) : Type 0 where
+  pub known : rel < length (relations net)
+  pub shape : HasShape row (columns (relation_shapes net) rel)
+  pub is_new : has_fact value_cmp begun.facts (record { rel = rel; row = row }) ≡ false
+
+-- from 1 to 4,294,967,295 tokens of a row of a control place, of its shape, of which there are none yet
+pub record AreNewTokens (net : List Decl) (begun : Begun) (place many : ℕ) (row : List Value) : Type 0 where
+  pub known : place < length (places net)
+  pub control : has_place is_control (places net) place ≡ true
+  pub shape : HasShape row (columns (place_shapes net) place)
+  pub some : 0 < many
+  pub small : many < 2 ^ 32
+  pub are_new : count_at row_cmp begun.tokens place row ≡ 0
 
 -- the state that a list was read as: all that a good snapshot asks but that the sentences hold, and one line for each sentence
 pub record IsSound (list : List Sexp) (s : State) : Type 0 where

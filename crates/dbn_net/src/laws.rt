@@ -1,6 +1,6 @@
 //! Laws of nets, as contracts of functions that do nothing.
 
-ghost use Rattle.std.specs.Prelude.{◌≡◌, ◌↔◌, ◌≤◌, ◌^◌, ℕ, Bool, true, not, List, [], ◌∷◌, ◌++◌, map, None, Some, Ok, length, slice_get};
+ghost use Rattle.std.specs.Prelude.{◌≡◌, ◌↔◌, ◌≤◌, ◌^◌, ℕ, true, not, List, [], ◌∷◌, ◌++◌, map, None, Some, Ok, length, slice_get};
 ghost use Rattle.std.specs.List.{list_any};
 ghost use Rattle.dbn_value.specs.declared.value.Value.{Value};
 ghost use Rattle.dbn_value.specs.Ascending.{CellsIn};
@@ -13,19 +13,20 @@ ghost use Rattle.dbn_formula.specs.Holds.{Instance};
 ghost use Rattle.dbn_formula.specs.Answers.{holds};
 ghost use Rattle.dbn_formula.specs.Distinct.{distinct_vars};
 ghost use Rattle.dbn_formula.specs.Normal.{normal};
-ghost use Rattle.dbn_instance.specs.declared.fact.Action.{Action};
 ghost use Rattle.dbn_formula.specs.Typing.{Shapes, type_fault};
 ghost use Rattle.dbn_formula.specs.Solutions.{HasShape, HasShapes, AcceptsQuery, AcceptsSentence};
+ghost use Rattle.dbn_instance.specs.declared.fact.Action.{Action};
 ghost use Rattle.dbn_net.specs.declared.decl.Decl.{Decl};
 ghost use Rattle.dbn_net.specs.declared.decl.Decl.TheVariants.{Foreign, Always};
 ghost use Rattle.dbn_net.specs.declared.decl.Entry.TheVariants.{Part};
+ghost use Rattle.dbn_net.specs.declared.decl.Entry.TheVariants as entry;
 ghost use Rattle.dbn_net.specs.declared.rules.Transition.{Transition};
 ghost use Rattle.dbn_net.specs.declared.snapshot.Snapshot.{Snapshot};
 ghost use Rattle.dbn_net.specs.declared.violation.Named.{Named};
 ghost use Rattle.dbn_net.specs.declared.written.Written.{Written};
 ghost use Rattle.dbn_net.specs.Forms.{Name, declaration_in};
 ghost use Rattle.dbn_net.specs.Printing.{no_lines, sexp_of};
-ghost use Rattle.dbn_net.specs.Tables.{Question, queries, actions, transitions, columns, relation_shapes, types_of, shape_of};
+ghost use Rattle.dbn_net.specs.Tables.{Question, relations, queries, actions, places, transitions, columns, relation_shapes, types_of, shape_of};
 ghost use Rattle.dbn_net.specs.Naming.{resolved, named};
 ghost use Rattle.dbn_net.specs.Judging.{Begun, judged, is_counted};
 ghost use Rattle.dbn_net.specs.Sentences.{key_sentence, foreign_sentence, sentences, violations, consistent};
@@ -36,7 +37,7 @@ ghost use Rattle.dbn_net.specs.Enabled.{bound_part, enabled, values_for};
 ghost use Rattle.dbn_net.specs.Good.{Good};
 ghost use Rattle.dbn_net.specs.Texts.{Start, State, nothing, read_one, read_each, finished, next_of, reads, canonical_list, ReadsAgain};
 ghost use Rattle.dbn_net.specs.Limits.{IsSmallNet, HasFewColumns, HasFewVariables};
-ghost use Rattle.dbn_net.specs.Starts.{IsSound, IsGoodStart};
+ghost use Rattle.dbn_net.specs.Starts.{IsNewFact, AreNewTokens, IsSound, IsGoodStart};
 
 /// No violation holds exactly where the net is consistent. Each violation is a normal form.
 pub fn no_violation_is_consistent()
@@ -125,4 +126,11 @@ pub fn readings_are_sound()
     ensures lists { (list : List Sexp) (s : State) → IsWithinDepth 64 list → read_each nothing list ≡ Ok s → IsSound list s }
     ensures ids { (depth : ℕ) (bytes : List ℕ) (list : List Sexp) → list_reads depth bytes ≡ Ok list → next_of list ≤ 2 ^ 62 }
     ensures ends { (list : List Sexp) (s : State) (start : Start) → IsSound list s → next_of list ≤ 2 ^ 62 → finished list s ≡ Ok start → IsGoodStart start }
+{}
+
+/// Facts and tokens that were judged are new, of the shape of their relation or control place, and the counts are in range.
+pub fn judged_entries_fit()
+    ensures facts { (net : List Decl) (begun : Begun) (w : Written) (rel : ℕ) (row : List Value) → judged net begun w ≡ Ok (entry.Fact rel row) → IsNewFact net begun rel row }
+    ensures tokens { (net : List Decl) (begun : Begun) (w : Written) (place many : ℕ) (row : List Value) → judged net begun w ≡ Ok (entry.Tokens place many row) → AreNewTokens net begun place many row }
+    ensures sizes { (list : List Sexp) (s : State) → IsSound list s → (length s.begun.facts ≡ length (relations s.decls)) × (length s.begun.tokens ≡ length (places s.decls)) }
 {}
