@@ -1,7 +1,11 @@
 pub mod DepthLaws
 pub mod GuardLaws
+pub mod JudgingLaws
 pub mod RelationLaws
 pub mod NumberLaws
 pub mod SeenNames
 pub mod ResolvedLaws
+pub mod PairLaws
+pub mod PickedLaws
 pub mod TermLaws
+pub mod UsedLaws

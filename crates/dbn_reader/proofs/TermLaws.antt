@@ -1,21 +1,17 @@
 -- Tests of terms: all variables of a list, the columns of a call, all variables of a transition.
-use Rattle.std.proofs.Common.{◌≡◌, ℕ, ◌<◌, ◌≤◌, Bool, ◌&&◌, List, [], ◌∷◌, ◌++◌, map, refl, sym, ap, ◌∙◌, Some, length, arith, zero, suc}
+use Rattle.std.proofs.Common.{◌≡◌, ℕ, ◌<◌, ◌≤◌, Bool, ◌&&◌, List, [], ◌∷◌, ◌++◌, map, refl, sym, ap, subst, ◌∙◌, Some, Result, IfOk, length, arith, zero, suc}
 use Rattle.std.specs.Prelude.{slice_get, slice_index_or}
 use Rattle.std.specs.List.{list_all, flat_map}
 use Rattle.std.proofs.lemmas.List.Folds.{list_all-append}
-use Rattle.std.proofs.lemmas.List.Elements.{filter_map-append}
 use Rattle.dbn_formula.specs.Variables.{TypedVars, is_in, firsts}
+use Rattle.dbn_formula.specs.Free.{occurrences, free}
+use Rattle.dbn_formula.specs.declared.formula.Formula.{Formula}
 use Rattle.dbn_formula.proofs.VariableLaws.{in_of_is, is_of_in, in_firsts, firsts_in}
 use Rattle.dbn_value.specs.declared.term.Var.{Var}
 use Rattle.std.specs.Cmp.{both_ways}
 use Rattle.dbn_instance.specs.declared.fact.Action.{Action}
 use Rattle.dbn_net.specs.declared.decl.Decl.{Decl}
-use Rattle.dbn_net.specs.declared.rules.Transition.{Transition}
-use Rattle.dbn_net.specs.Tables.{actions, action_shapes, columns, types_of, scope_of}
-use Rattle.dbn_net.specs.Judging.{all_terms, terms_bound}
-use Rattle.dbn_formula.specs.Typing.{terms_fit}
-use Rattle.dbn_reader.specs.Terms.{tested}
-use Rattle.dbn_reader.specs.declared.terms.TermTest.TheVariants.{Fit, Bound}
+use Rattle.dbn_net.specs.Tables.{actions, action_shapes, columns, types_of}
 use Rattle.dbn_reader.proofs.ResolvedLaws.{got}
 
 pub all_flat : {A B : Type 0} (t : B → Bool) (f : A → List B) (xs : List A) → list_all t (flat_map f xs) ≡ list_all (λ x. list_all t (f x)) xs
@@ -47,13 +43,8 @@ all_among xs [] = refl
 all_among xs (x ∷ vars) =
     ap (λ b. b && list_all (λ y. is_in y.0 (firsts xs)) vars) (among_firsts x.0 xs) ∙ ap (λ b. is_in x.0 xs && b) (all_among xs vars)
 
-pub ruleset picked_laws = (filter_map-append)
-
--- all terms of a transition, under its own variables
-pub fit_terms : (net : List Decl) (t : Transition) (bound scope : TypedVars) → bound ≡ t.bound → scope ≡ scope_of t
-    → all_terms (tested Fit bound) (tested Fit scope) net t ≡ all_terms (terms_fit t.bound) (terms_fit (scope_of t)) net t
-fit_terms net t bound scope e f = ap (λ (s : TypedVars). all_terms (tested Fit s) (tested Fit scope) net t) e ∙ ap (λ (s : TypedVars). all_terms (tested Fit t.bound) (tested Fit s) net t) f
-
-pub bound_terms : (net : List Decl) (t : Transition) (bound scope : TypedVars) → bound ≡ t.bound → scope ≡ scope_of t
-    → all_terms (tested Bound bound) (tested Bound scope) net t ≡ all_terms (terms_bound t.bound) (terms_bound (scope_of t)) net t
-bound_terms net t bound scope e f = ap (λ (s : TypedVars). all_terms (tested Bound s) (tested Bound scope) net t) e ∙ ap (λ (s : TypedVars). all_terms (tested Bound t.bound) (tested Bound s) net t) f
+-- what is used, by the free variables
+pub free_are_used : {E : Type 0} (result : Result Bool E) (vars : TypedVars) (used : List Var) (body : Formula) → used ≡ free body
+    → IfOk result (λ ok. ok ≡ list_all (λ x. is_in x.0 used) vars) → IfOk result (λ ok. ok ≡ list_all (λ x. is_in x.0 (occurrences body)) vars)
+free_are_used result vars used body e told =
+    subst (λ (b : Bool). IfOk result (λ ok. ok ≡ b)) (ap (λ (us : List Var). list_all (λ x. is_in x.0 us) vars) e ∙ all_among (occurrences body) vars) told

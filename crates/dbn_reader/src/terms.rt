@@ -7,11 +7,11 @@ ghost use Rattle.dbn_formula.specs.Variables.{binds};
 ghost use Rattle.dbn_formula.specs.Free.{variable_of};
 ghost use Rattle.dbn_net.specs.Tables.{types_of, with_type, scope_of, columns, action_shapes};
 ghost use Rattle.dbn_net.specs.Judging.{all_patterns, all_facts, all_terms};
-ghost use Rattle.dbn_reader.specs.Terms.{tested};
+ghost use Rattle.dbn_reader.specs.Terms.{tested, all_of_action, all_of_transition};
 
 use super::numbers::columns;
 use dbn_formula::{binds, terms_fit};
-use dbn_instance::FactPattern;
+use dbn_instance::{Action, FactPattern};
 use dbn_net::{Arc, Call, Net, Pattern, Read, Transition};
 use dbn_value::{ColType, CopyIn, Shape, Shapes, Term, TypedVars, Var};
 use sqlite_items::Items;
@@ -106,7 +106,7 @@ fn reads_pass(test: TermTest, scope: &[(Var, ColType)], sites: &Shapes, reads: &
 }
 
 /// Whether the terms of each fact pass the test, against the columns of its relation. This takes no memory.
-pub(crate) fn facts_pass(
+fn facts_pass(
     test: TermTest,
     scope: &[(Var, ColType)],
     rels: &Shapes,
@@ -120,6 +120,16 @@ pub(crate) fn facts_pass(
         }
     }
     true
+}
+
+/// Whether all terms of the action pass the test, under its parameters. This takes no memory.
+pub(crate) fn action_passes(test: TermTest, net: &Net, action: &Action) -> bool
+    ensures { result ≡ all_of_action test net.now action.now }
+{
+    let params = action.params.as_slice();
+    let rels = net.rel_shapes();
+    facts_pass(test, params, rels, action.deletes.as_slice())
+        && facts_pass(test, params, rels, action.adds.as_slice())
 }
 
 /// The types of the variables. An error is want of memory.
@@ -164,7 +174,7 @@ fn call_passes(
 }
 
 /// All variables of the transition. An error is want of memory.
-pub(crate) fn scope_of(alloc: Global, transition: &Transition) -> Result<TypedVars, AllocError>
+fn scope_of(alloc: Global, transition: &Transition) -> Result<TypedVars, AllocError>
     ensures { IfOk result (λ scope. scope ≡ scope_of transition.now) }
 {
     let mut scope = transition.bound.copy_in(alloc)?;
@@ -184,7 +194,7 @@ fn add_fresh(alloc: Global, scope: &mut TypedVars, fresh: &[Var]) -> Result<(), 
 
 /// Whether all terms of the transition pass the test: those of `in` and `read` clauses under the scope `before`, those of the
 /// others under the scope `after`. An error is want of memory.
-pub(crate) fn transition_passes(
+fn terms_pass(
     alloc: Global,
     net: &Net,
     test: TermTest,
@@ -208,4 +218,19 @@ pub(crate) fn transition_passes(
         return Ok(false);
     }
     Ok(arcs_pass(test, after, sites, transition.backs.as_slice()))
+}
+
+/// Whether all terms of the transition pass the test, each under the variables that have values where it stands. An error is
+/// want of memory.
+pub(crate) fn transition_passes(
+    alloc: Global,
+    net: &Net,
+    test: TermTest,
+    transition: &Transition,
+) -> Result<bool, AllocError>
+    ensures { IfOk result (λ ok. ok ≡ all_of_transition test net.now transition.now) }
+{
+    let scope = scope_of(alloc, transition)?;
+    let bound = transition.bound.as_slice();
+    terms_pass(alloc, net, test, bound, scope.as_slice(), transition)
 }
