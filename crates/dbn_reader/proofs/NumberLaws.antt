@@ -16,4 +16,4 @@ place_within net name n e = subst (λ (k : ℕ). n < k) (length-map (places net)
 pub relation_within : (net : List Decl) (name : Name) (n : ℕ) → number_of (relation_names net) name ≡ Some n → n < length (relations net)
 relation_within net name n e = subst (λ (k : ℕ). n < k) (length-map (relations net) _) (number_within (relation_names net) name n e)
 
-pub ruleset number_laws = (place_within)
+pub ruleset number_laws = (place_within, relation_within)
