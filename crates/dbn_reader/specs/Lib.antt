@@ -3,6 +3,8 @@ pub mod Constants
 pub mod Duplicates
 pub mod Gives
 pub mod Judged
+pub mod Light
+pub mod Reading
 pub mod Short
 pub mod Terms
 pub mod Used

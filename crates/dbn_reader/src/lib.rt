@@ -1,20 +1,27 @@
-//! Net texts: the declarations that S-expressions are, and tests of them.
+//! Net texts: the net and the start snapshot that a text is read as, or its first fault.
 #![tactic(auto)]
 
 mod arity;
 mod binding;
 mod bound;
+mod broken;
 mod clauses;
 mod counting;
 mod declarations;
 mod duplicates;
+mod fault;
 mod formulas;
+mod ids;
 mod judging;
 mod limits;
 mod misfit;
 mod names;
 mod numbers;
 mod queue;
+mod reading;
 mod terms;
 mod typing;
 mod words;
+
+pub use fault::NetFault;
+pub use reading::read_net;

@@ -1,0 +1,8 @@
+use Rattle.dbn_reader.proofs.StartLaws.{good_read, light_read}
+use Rattle.dbn_reader.proofs.reading.read_net.Goals as goal
+
+pub returns-clause-good : goal.returns-clause-good
+returns-clause-good c = good_read c.args.bytes.now c.read_text.result c.read_text.ensures.exact c.read_text.ensures.fired
+
+pub returns-clause-light : goal.returns-clause-light
+returns-clause-light c = light_read c.args.bytes.now c.read_text.result c.read_text.ensures.exact
