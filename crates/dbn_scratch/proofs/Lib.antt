@@ -3,6 +3,8 @@ pub mod DomainLaws
 pub mod EnvLaws
 pub mod FoundLaws
 pub mod GivenLaws
+pub mod IndexLaws
+pub mod JoinLaws
 pub mod LoopLaws
 pub mod SolvingLaws
 pub mod TurnLaws

@@ -1,3 +1,4 @@
 pub mod Envs
 pub mod Given
+pub mod Indexes
 pub mod Prepared

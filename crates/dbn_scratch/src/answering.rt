@@ -16,6 +16,7 @@ ghost use Rattle.dbn_scratch.specs.Prepared.{domain_of, IsPrepared};
 
 use super::bindings::{Env, has_entry, known, value_of_var};
 use super::domains::{Domains, column, gathered, occurs, rows_over};
+use super::indexes::Indexes;
 use super::listing::{World, copied_row, holds_at, rows_that_hold};
 use super::solving::{add_solutions, has_solution};
 use super::tables::Tables;
@@ -154,7 +155,8 @@ fn is_solved<'x>(
 {
     let zero = Value::Int(0);
     let tables = prepared(alloc, whole, instance, &zero)?;
-    has_solution(alloc, &tables, solved, &[])
+    let mut indexes = Indexes::new(alloc, instance);
+    has_solution(alloc, &tables, &mut indexes, solved, &[])
 }
 
 /// The rows that the solutions give the variables.
@@ -185,8 +187,9 @@ fn answers_plain<'x>(
 {
     let zero = Value::Int(0);
     let tables = prepared(alloc, whole, instance, &zero)?;
+    let mut indexes = Indexes::new(alloc, instance);
     let mut found = Items::new(alloc);
-    add_solutions(alloc, &mut found, &tables, solved, &[])?;
+    add_solutions(alloc, &mut found, &tables, &mut indexes, solved, &[])?;
     if !all_have(vars, found.as_slice()) {
         return Ok(None);
     }
@@ -221,8 +224,9 @@ fn product_rows<'x>(
     requires { IsPrepared tables.now }
     ensures { IfOk result (λ rows. rows ≡ ascending row_cmp (flat_map (rows_given (kept_of domains.now) vars.now) (solutions_over (domain_of tables.now) tables.now.instance.now solved.now []))) }
 {
+    let mut indexes = Indexes::new(alloc, tables.instance);
     let mut found = Items::new(alloc);
-    add_solutions(alloc, &mut found, tables, solved, &[])?;
+    add_solutions(alloc, &mut found, tables, &mut indexes, solved, &[])?;
     let mut set = BTreeSet::new(alloc);
     add_products(alloc, &mut set, domains, vars, found.as_slice())?;
     listed(alloc, set)

@@ -1,50 +1,162 @@
 ghost use Rattle.std.specs.Prelude.{◌≡◌, ◌++◌, not, map, slice_index_or, [], IfOk, OnOk, ◌<◌, pos};
-ghost use Rattle.std.specs.List.{flat_map};
+ghost use Rattle.std.specs.List.{flat_map, list_any};
 ghost use Rattle.dbn_value.specs.Scope.{value_of};
 ghost use Rattle.dbn_formula.specs.Solve.{is_empty, only_if, matched, tested, has_value, term_is};
 ghost use Rattle.dbn_scratch.specs.Envs.{env_of, envs_of, as_list};
+ghost use Rattle.dbn_scratch.specs.Indexes.{key_of, shown, rows_under};
 ghost use Rattle.dbn_scratch.specs.Prepared.{domain_of, IsPrepared};
 
 use super::bindings::{Env, Envs, copied, give, has_value, match_row, value_at};
+use super::indexes::{Index, Indexes, marks_of, rows_at, values_at};
 use super::tables::Tables;
 use dbn_value::{Cell, Cmp, Row, Term, Value, Var};
 use std::alloc::{AllocError, Global};
 use std::collections::BTreeSet;
 
 /// Appends the environment with the cells of each row of the relation for the terms, where they match.
-#[tactic(auto, using(crate::proofs::AtomLaws::no_rows))]
 pub(crate) fn add_atom<'x>(
     alloc: Global,
     out: &mut Envs<'x>,
     tables: &Tables<'x>,
+    indexes: &mut Indexes<'x>,
     rel: usize,
     terms: &'x [Term],
     env: &[(&'x Var, &'x Value)],
 ) -> Result<(), AllocError>
-    ensures { OnOk result (envs_of out.new ≡ envs_of out.old ++ flat_map (λ row. matched terms.now row (env_of env.now)) (slice_index_or tables.now.instance.now rel [])) }
+    requires prepared { IsPrepared tables.now }
+    requires over { indexes.old ≡ tables.now.instance.now }
+    ensures solutions { OnOk result (envs_of out.new ≡ envs_of out.old ++ flat_map (λ row. matched terms.now row (env_of env.now)) (slice_index_or tables.now.instance.now rel [])) }
+    ensures same { indexes.new ≡ indexes.old }
 {
-    if rel < tables.instance.relations() {
-        add_rows(alloc, out, tables.instance.row_set(rel), terms, env)
-    } else {
-        Ok(())
+    let rows = candidates(alloc, tables, indexes, rel, terms, env)?;
+    add_matches(alloc, out, rows.as_slice(), terms, env)
+}
+
+/// Whether a row of the relation matches the terms.
+pub(crate) fn has_match<'x>(
+    alloc: Global,
+    tables: &Tables<'x>,
+    indexes: &mut Indexes<'x>,
+    rel: usize,
+    terms: &'x [Term],
+    env: &[(&'x Var, &'x Value)],
+) -> Result<bool, AllocError>
+    requires prepared { IsPrepared tables.now }
+    requires over { indexes.old ≡ tables.now.instance.now }
+    ensures some { IfOk result (λ some. some ≡ not (is_empty (flat_map (λ row. matched terms.now row (env_of env.now)) (slice_index_or tables.now.instance.now rel [])))) }
+    ensures same { indexes.new ≡ indexes.old }
+{
+    let rows = candidates(alloc, tables, indexes, rel, terms, env)?;
+    some_matches(alloc, rows.as_slice(), terms, env)
+}
+
+/// The rows of the relation that may match the terms: those with the values that the terms have, where there is an index by
+/// them, and else all.
+#[tactic(auto, using(crate::proofs::AtomLaws::no_rows))]
+fn candidates<'x>(
+    alloc: Global,
+    tables: &Tables<'x>,
+    indexes: &mut Indexes<'x>,
+    rel: usize,
+    terms: &'x [Term],
+    env: &[(&'x Var, &'x Value)],
+) -> Result<Vec<&'x Row<Value>>, AllocError>
+    requires prepared { IsPrepared tables.now }
+    requires over { indexes.old ≡ tables.now.instance.now }
+    ensures rows { IfOk result (λ rows. flat_map (λ row. matched terms.now row (env_of env.now)) (shown rows.items) ≡ flat_map (λ row. matched terms.now row (env_of env.now)) (slice_index_or tables.now.instance.now rel [])) }
+    ensures same { indexes.new ≡ indexes.old }
+{
+    if rel >= tables.instance.relations() {
+        return Ok(Vec::new(alloc));
+    }
+    let marks = marks_of(alloc, terms, env)?;
+    let spot = (rel, marks);
+    match indexes.get(&spot) {
+        Some(index) => rows_for(alloc, index, spot.1.as_slice(), terms, env, tables.zero),
+        None => {
+            indexes.note(alloc, spot)?;
+            all_rows(alloc, tables.instance.row_set(rel))
+        }
     }
 }
 
+/// The rows with the values of the marked terms.
+fn rows_for<'x>(
+    alloc: Global,
+    index: &Index<'x>,
+    marks: &[bool],
+    terms: &'x [Term],
+    env: &[(&'x Var, &'x Value)],
+    zero: &'x Value,
+) -> Result<Vec<&'x Row<Value>>, AllocError>
+    requires { zero.now ≡ Value.Int (pos 0) }
+    ensures { IfOk result (λ rows. shown rows.items ≡ rows_under index.now.entries (key_of marks.now (map (value_of (env_of env.now)) terms.now))) }
+{
+    let key = values_at(alloc, marks, terms, env, zero)?;
+    rows_at(alloc, index, &key)
+}
+
 #[tactic(auto, using(crate::proofs::SolvingLaws::viewed))]
-fn add_rows<'x>(
+fn all_rows<'x>(
+    alloc: Global,
+    rows: &'x BTreeSet<Row<Value>>,
+) -> Result<Vec<&'x Row<Value>>, AllocError>
+    ensures { IfOk result (λ all. shown all.items ≡ rows.now.keys) }
+{
+    let mut all = Vec::new(alloc);
+    for row in rows {
+        all.push(row)?;
+    }
+    Ok(all)
+}
+
+/// Appends the environment with the cells of each of the rows for the terms, where they match.
+#[tactic(auto, using(crate::proofs::SolvingLaws::viewed))]
+fn add_matches<'x>(
     alloc: Global,
     out: &mut Envs<'x>,
-    rows: &'x BTreeSet<Row<Value>>,
+    rows: &[&'x Row<Value>],
     terms: &'x [Term],
     env: &[(&'x Var, &'x Value)],
 ) -> Result<(), AllocError>
-    ensures { OnOk result (envs_of out.new ≡ envs_of out.old ++ flat_map (λ row. matched terms.now row (env_of env.now)) rows.now.keys) }
+    ensures { OnOk result (envs_of out.new ≡ envs_of out.old ++ flat_map (λ r. matched terms.now r.now (env_of env.now)) rows.now) }
 {
     for row in rows {
-        let found = match_row(alloc, terms, row.as_slice(), env)?;
+        let found = match_row(alloc, terms, (*row).as_slice(), env)?;
         add_found(out, found)?;
     }
     Ok(())
+}
+
+/// Whether one of the rows matches the terms.
+fn some_matches<'x>(
+    alloc: Global,
+    rows: &[&'x Row<Value>],
+    terms: &'x [Term],
+    env: &[(&'x Var, &'x Value)],
+) -> Result<bool, AllocError>
+    ensures { IfOk result (λ some. some ≡ list_any (λ r. not (is_empty (matched terms.now r.now (env_of env.now)))) rows.now) }
+{
+    for row in rows {
+        if matches(alloc, terms, (*row).as_slice(), env)? {
+            return Ok(true);
+        }
+    }
+    Ok(false)
+}
+
+fn matches<'x>(
+    alloc: Global,
+    terms: &'x [Term],
+    row: &'x [Value],
+    env: &[(&'x Var, &'x Value)],
+) -> Result<bool, AllocError>
+    ensures { IfOk result (λ fits. fits ≡ not (is_empty (matched terms.now row.now (env_of env.now)))) }
+{
+    match match_row(alloc, terms, row, env)? {
+        Some(_) => Ok(true),
+        None => Ok(false),
+    }
 }
 
 /// Appends the environment, where there is one.

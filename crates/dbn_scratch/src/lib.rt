@@ -5,6 +5,7 @@ mod answering;
 mod atoms;
 mod bindings;
 mod domains;
+mod indexes;
 mod listing;
 mod solving;
 mod tables;

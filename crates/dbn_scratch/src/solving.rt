@@ -4,8 +4,9 @@ ghost use Rattle.dbn_formula.specs.Solve.{is_empty, is_bound, matched, tested, a
 ghost use Rattle.dbn_scratch.specs.Envs.{env_of, envs_of};
 ghost use Rattle.dbn_scratch.specs.Prepared.{domain_of, IsPrepared};
 
-use super::atoms::{add_atom, add_if, add_tested};
+use super::atoms::{add_atom, add_if, add_tested, has_match};
 use super::bindings::{Env, Envs, copied, has_entry, without};
+use super::indexes::Indexes;
 use super::tables::{Tables, has_some};
 use dbn_formula::Formula;
 use dbn_value::{Cmp, ColType, Term, Value, Var};
@@ -19,26 +20,45 @@ pub(crate) fn add_solutions<'x>(
     alloc: Global,
     out: &mut Envs<'x>,
     tables: &Tables<'x>,
+    indexes: &mut Indexes<'x>,
     f: &'x Formula,
     env: &[(&'x Var, &'x Value)],
 ) -> Result<(), AllocError>
-    requires { IsPrepared tables.now }
-    ensures { OnOk result (envs_of out.new ≡ envs_of out.old ++ solutions_over (domain_of tables.now) tables.now.instance.now f.now (env_of env.now)) }
+    requires prepared { IsPrepared tables.now }
+    requires over { indexes.old ≡ tables.now.instance.now }
+    ensures solutions { OnOk result (envs_of out.new ≡ envs_of out.old ++ solutions_over (domain_of tables.now) tables.now.instance.now f.now (env_of env.now)) }
+    ensures same { indexes.new ≡ indexes.old }
 {
     match f {
-        Formula::Atom { rel, terms } => add_atom(alloc, out, tables, *rel, terms.as_slice(), env),
+        Formula::Atom { rel, terms } => add_atom(
+            alloc,
+            out,
+            tables,
+            indexes,
+            *rel,
+            terms.as_slice(),
+            env,
+        ),
         Formula::Test { cmp, left, right } => {
             add_tested(alloc, out, tables, *cmp, left, right, env)
         }
-        Formula::And(parts) => add_all(alloc, out, tables, parts.as_slice(), env),
-        Formula::Or(parts) => add_any(alloc, out, tables, parts.as_slice(), env),
+        Formula::And(parts) => add_all(alloc, out, tables, indexes, parts.as_slice(), env),
+        Formula::Or(parts) => add_any(alloc, out, tables, indexes, parts.as_slice(), env),
         Formula::Not(part) => {
-            let some = has_solution(alloc, tables, part.get(), env)?;
+            let some = has_solution(alloc, tables, indexes, part.get(), env)?;
             add_if(alloc, out, !some, env)
         }
         Formula::Implies(_, _) => Ok(()),
         Formula::Exists { vars, body } => {
-            add_exists(alloc, out, tables, vars.as_slice(), body.get(), env)
+            add_exists(
+                alloc,
+                out,
+                tables,
+                indexes,
+                vars.as_slice(),
+                body.get(),
+                env,
+            )
         }
         Formula::Forall { vars: _, body: _ } => Ok(()),
     }
@@ -50,17 +70,20 @@ fn add_all<'x>(
     alloc: Global,
     out: &mut Envs<'x>,
     tables: &Tables<'x>,
+    indexes: &mut Indexes<'x>,
     parts: &'x [Formula],
     env: &[(&'x Var, &'x Value)],
 ) -> Result<(), AllocError>
-    requires { IsPrepared tables.now }
-    ensures { OnOk result (envs_of out.new ≡ envs_of out.old ++ all_run (map (solutions_over (domain_of tables.now) tables.now.instance.now) parts.now) (env_of env.now)) }
+    requires prepared { IsPrepared tables.now }
+    requires over { indexes.old ≡ tables.now.instance.now }
+    ensures solutions { OnOk result (envs_of out.new ≡ envs_of out.old ++ all_run (map (solutions_over (domain_of tables.now) tables.now.instance.now) parts.now) (env_of env.now)) }
+    ensures same { indexes.new ≡ indexes.old }
 {
     let mut from = Items::new(alloc);
     from.push(copied(alloc, env)?)?;
     for part in parts {
         let mut next = Items::new(alloc);
-        add_each(alloc, &mut next, tables, part, from.as_slice())?;
+        add_each(alloc, &mut next, tables, indexes, part, from.as_slice())?;
         from = next;
     }
     out.append(from)
@@ -72,14 +95,17 @@ fn add_each<'x>(
     alloc: Global,
     out: &mut Envs<'x>,
     tables: &Tables<'x>,
+    indexes: &mut Indexes<'x>,
     part: &'x Formula,
     envs: &[Env<'x>],
 ) -> Result<(), AllocError>
-    requires { IsPrepared tables.now }
-    ensures { OnOk result (envs_of out.new ≡ envs_of out.old ++ flat_map (λ e. solutions_over (domain_of tables.now) tables.now.instance.now part.now (env_of e.items)) envs.now) }
+    requires prepared { IsPrepared tables.now }
+    requires over { indexes.old ≡ tables.now.instance.now }
+    ensures solutions { OnOk result (envs_of out.new ≡ envs_of out.old ++ flat_map (λ e. solutions_over (domain_of tables.now) tables.now.instance.now part.now (env_of e.items)) envs.now) }
+    ensures same { indexes.new ≡ indexes.old }
 {
     for env in envs {
-        add_solutions(alloc, out, tables, part, env.as_slice())?;
+        add_solutions(alloc, out, tables, indexes, part, env.as_slice())?;
     }
     Ok(())
 }
@@ -90,14 +116,17 @@ fn add_any<'x>(
     alloc: Global,
     out: &mut Envs<'x>,
     tables: &Tables<'x>,
+    indexes: &mut Indexes<'x>,
     parts: &'x [Formula],
     env: &[(&'x Var, &'x Value)],
 ) -> Result<(), AllocError>
-    requires { IsPrepared tables.now }
-    ensures { OnOk result (envs_of out.new ≡ envs_of out.old ++ flat_map (λ f. solutions_over (domain_of tables.now) tables.now.instance.now f (env_of env.now)) parts.now) }
+    requires prepared { IsPrepared tables.now }
+    requires over { indexes.old ≡ tables.now.instance.now }
+    ensures solutions { OnOk result (envs_of out.new ≡ envs_of out.old ++ flat_map (λ f. solutions_over (domain_of tables.now) tables.now.instance.now f (env_of env.now)) parts.now) }
+    ensures same { indexes.new ≡ indexes.old }
 {
     for part in parts {
-        add_solutions(alloc, out, tables, part, env)?;
+        add_solutions(alloc, out, tables, indexes, part, env)?;
     }
     Ok(())
 }
@@ -108,15 +137,18 @@ fn add_exists<'x>(
     alloc: Global,
     out: &mut Envs<'x>,
     tables: &Tables<'x>,
+    indexes: &mut Indexes<'x>,
     vars: &[(Var, ColType)],
     body: &'x Formula,
     env: &[(&'x Var, &'x Value)],
 ) -> Result<(), AllocError>
-    requires { IsPrepared tables.now }
-    ensures { OnOk result (envs_of out.new ≡ envs_of out.old ++ flat_map (chosen (domain_of tables.now) vars.now) (solutions_over (domain_of tables.now) tables.now.instance.now body.now (env_of env.now))) }
+    requires prepared { IsPrepared tables.now }
+    requires over { indexes.old ≡ tables.now.instance.now }
+    ensures solutions { OnOk result (envs_of out.new ≡ envs_of out.old ++ flat_map (chosen (domain_of tables.now) vars.now) (solutions_over (domain_of tables.now) tables.now.instance.now body.now (env_of env.now))) }
+    ensures same { indexes.new ≡ indexes.old }
 {
     let mut found = Items::new(alloc);
-    add_solutions(alloc, &mut found, tables, body, env)?;
+    add_solutions(alloc, &mut found, tables, indexes, body, env)?;
     add_chosen(alloc, out, tables, vars, found.as_slice())
 }
 
@@ -126,44 +158,39 @@ fn add_exists<'x>(
 pub(crate) fn has_solution<'x>(
     alloc: Global,
     tables: &Tables<'x>,
+    indexes: &mut Indexes<'x>,
     f: &'x Formula,
     env: &[(&'x Var, &'x Value)],
 ) -> Result<bool, AllocError>
-    requires { IsPrepared tables.now }
-    ensures { IfOk result (λ some. some ≡ not (is_empty (solutions_over (domain_of tables.now) tables.now.instance.now f.now (env_of env.now)))) }
+    requires prepared { IsPrepared tables.now }
+    requires over { indexes.old ≡ tables.now.instance.now }
+    ensures some { IfOk result (λ some. some ≡ not (is_empty (solutions_over (domain_of tables.now) tables.now.instance.now f.now (env_of env.now)))) }
+    ensures same { indexes.new ≡ indexes.old }
 {
     match f {
-        Formula::Atom { rel, terms } => has_match(alloc, tables, *rel, terms.as_slice(), env),
+        Formula::Atom { rel, terms } => has_match(
+            alloc,
+            tables,
+            indexes,
+            *rel,
+            terms.as_slice(),
+            env,
+        ),
         Formula::Test { cmp, left, right } => passes(alloc, tables, *cmp, left, right, env),
-        Formula::And(parts) => has_all(alloc, tables, parts.as_slice(), env),
-        Formula::Or(parts) => has_any(alloc, tables, parts.as_slice(), env),
-        Formula::Not(part) => Ok(!has_solution(alloc, tables, part.get(), env)?),
+        Formula::And(parts) => has_all(alloc, tables, indexes, parts.as_slice(), env),
+        Formula::Or(parts) => has_any(alloc, tables, indexes, parts.as_slice(), env),
+        Formula::Not(part) => Ok(!has_solution(alloc, tables, indexes, part.get(), env)?),
         Formula::Implies(_, _) => Ok(false),
         Formula::Exists { vars, body } => has_exists(
             alloc,
             tables,
+            indexes,
             vars.as_slice(),
             body.get(),
             env,
         ),
         Formula::Forall { vars: _, body: _ } => Ok(false),
     }
-}
-
-/// Whether a row of the relation matches the terms.
-#[tactic(auto, using(crate::proofs::TurnLaws::some_view))]
-fn has_match<'x>(
-    alloc: Global,
-    tables: &Tables<'x>,
-    rel: usize,
-    terms: &'x [Term],
-    env: &[(&'x Var, &'x Value)],
-) -> Result<bool, AllocError>
-    ensures { IfOk result (λ some. some ≡ not (is_empty (flat_map (λ row. matched terms.now row (env_of env.now)) (slice_index_or tables.now.instance.now rel [])))) }
-{
-    let mut found = Items::new(alloc);
-    add_atom(alloc, &mut found, tables, rel, terms, env)?;
-    Ok(!found.is_empty())
 }
 
 /// Whether the comparison has a solution.
@@ -189,18 +216,21 @@ fn passes<'x>(
 fn has_all<'x>(
     alloc: Global,
     tables: &Tables<'x>,
+    indexes: &mut Indexes<'x>,
     parts: &'x [Formula],
     env: &[(&'x Var, &'x Value)],
 ) -> Result<bool, AllocError>
-    requires { IsPrepared tables.now }
-    ensures { IfOk result (λ some. some ≡ not (is_empty (all_run (map (solutions_over (domain_of tables.now) tables.now.instance.now) parts.now) (env_of env.now)))) }
+    requires prepared { IsPrepared tables.now }
+    requires over { indexes.old ≡ tables.now.instance.now }
+    ensures some { IfOk result (λ some. some ≡ not (is_empty (all_run (map (solutions_over (domain_of tables.now) tables.now.instance.now) parts.now) (env_of env.now)))) }
+    ensures same { indexes.new ≡ indexes.old }
 {
     match parts.split_last() {
         None => Ok(true),
         Some((last, others)) => {
             let mut from = Items::new(alloc);
-            add_all(alloc, &mut from, tables, others, env)?;
-            has_each(alloc, tables, last, from.as_slice())
+            add_all(alloc, &mut from, tables, indexes, others, env)?;
+            has_each(alloc, tables, indexes, last, from.as_slice())
         }
     }
 }
@@ -209,14 +239,17 @@ fn has_all<'x>(
 fn has_each<'x>(
     alloc: Global,
     tables: &Tables<'x>,
+    indexes: &mut Indexes<'x>,
     part: &'x Formula,
     envs: &[Env<'x>],
 ) -> Result<bool, AllocError>
-    requires { IsPrepared tables.now }
-    ensures { IfOk result (λ some. some ≡ list_any (λ e. not (is_empty (solutions_over (domain_of tables.now) tables.now.instance.now part.now (env_of e.items)))) envs.now) }
+    requires prepared { IsPrepared tables.now }
+    requires over { indexes.old ≡ tables.now.instance.now }
+    ensures some { IfOk result (λ some. some ≡ list_any (λ e. not (is_empty (solutions_over (domain_of tables.now) tables.now.instance.now part.now (env_of e.items)))) envs.now) }
+    ensures same { indexes.new ≡ indexes.old }
 {
     for env in envs {
-        if has_solution(alloc, tables, part, env.as_slice())? {
+        if has_solution(alloc, tables, indexes, part, env.as_slice())? {
             return Ok(true);
         }
     }
@@ -227,14 +260,17 @@ fn has_each<'x>(
 fn has_any<'x>(
     alloc: Global,
     tables: &Tables<'x>,
+    indexes: &mut Indexes<'x>,
     parts: &'x [Formula],
     env: &[(&'x Var, &'x Value)],
 ) -> Result<bool, AllocError>
-    requires { IsPrepared tables.now }
-    ensures { IfOk result (λ some. some ≡ list_any (λ f. not (is_empty (solutions_over (domain_of tables.now) tables.now.instance.now f (env_of env.now)))) parts.now) }
+    requires prepared { IsPrepared tables.now }
+    requires over { indexes.old ≡ tables.now.instance.now }
+    ensures some { IfOk result (λ some. some ≡ list_any (λ f. not (is_empty (solutions_over (domain_of tables.now) tables.now.instance.now f (env_of env.now)))) parts.now) }
+    ensures same { indexes.new ≡ indexes.old }
 {
     for part in parts {
-        if has_solution(alloc, tables, part, env)? {
+        if has_solution(alloc, tables, indexes, part, env)? {
             return Ok(true);
         }
     }
@@ -245,18 +281,21 @@ fn has_any<'x>(
 fn has_exists<'x>(
     alloc: Global,
     tables: &Tables<'x>,
+    indexes: &mut Indexes<'x>,
     vars: &[(Var, ColType)],
     body: &'x Formula,
     env: &[(&'x Var, &'x Value)],
 ) -> Result<bool, AllocError>
-    requires { IsPrepared tables.now }
-    ensures { IfOk result (λ some. some ≡ not (is_empty (flat_map (chosen (domain_of tables.now) vars.now) (solutions_over (domain_of tables.now) tables.now.instance.now body.now (env_of env.now))))) }
+    requires prepared { IsPrepared tables.now }
+    requires over { indexes.old ≡ tables.now.instance.now }
+    ensures some { IfOk result (λ some. some ≡ not (is_empty (flat_map (chosen (domain_of tables.now) vars.now) (solutions_over (domain_of tables.now) tables.now.instance.now body.now (env_of env.now))))) }
+    ensures same { indexes.new ≡ indexes.old }
 {
     if have_values(tables, vars) {
-        return has_solution(alloc, tables, body, env);
+        return has_solution(alloc, tables, indexes, body, env);
     }
     let mut found = Items::new(alloc);
-    add_solutions(alloc, &mut found, tables, body, env)?;
+    add_solutions(alloc, &mut found, tables, indexes, body, env)?;
     Ok(is_choosable_in(tables, vars, found.as_slice()))
 }
 

@@ -13,7 +13,7 @@ use Rattle.dbn_scratch.proofs.answering.answers_plain.Goals as goal
 pub returns : goal.returns
 returns c =
     let found : envs_of c.add_solutions.new.out ≡ solutions_over (domain c.args.whole.now c.args.instance.now) c.args.instance.now c.args.solved.now [] =
-    from_none c.new-found.result c.add_solutions.new.out (solutions_over (domain c.in_ok-tables.tables.whole.now c.in_ok-tables.tables.instance.now) c.in_ok-tables.tables.instance.now c.args.solved.now []) c.new-found.ensures c.in_ok-add_solutions.ensures
+    from_none c.new-found.result c.add_solutions.new.out (solutions_over (domain c.in_ok-tables.tables.whole.now c.in_ok-tables.tables.instance.now) c.in_ok-tables.tables.instance.now c.args.solved.now []) c.new-found.ensures c.in_ok-add_solutions.ensures.solutions
     ∙ over_same c.in_ok-tables.tables.whole.now c.args.whole.now c.in_ok-tables.tables.instance.now c.args.instance.now c.args.solved.now c.in_ok-tables.ensures.1 c.in_ok-tables.ensures.2 in
     let passes : c.all_have.result ≡ true = search rules in
     let all : true ≡ list_all (λ e. list_all (λ x. is_bound (env_of e.items) x.0) c.args.vars.now) c.add_solutions.new.out =

@@ -37,22 +37,39 @@ abbrev pub decreases-has_exists : goal.decreases-has_exists
 decreases-has_exists l = 2 * weight l.body.now + 1
 
 abbrev pub invariant-add_each-loop-env : goal.invariant-add_each-loop-env
-invariant-add_each-loop-env l = envs_of l.out ≡ envs_of l.fn.out ++ flat_map (λ e. solutions_over (domain_of l.tables) l.tables.instance.now l.part (env_of e.items)) (take l.env-index l.envs)
+invariant-add_each-loop-env l = record {
+  solutions :
+      envs_of l.out ≡ envs_of l.fn.out ++ flat_map (λ e. solutions_over (domain_of l.tables) l.tables.instance.now l.part (env_of e.items)) (take l.env-index l.envs);
+  same : l.indexes ≡ l.fn.indexes;
+}
 
 abbrev pub invariant-add_all-loop-part : goal.invariant-add_all-loop-part
-invariant-add_all-loop-part l =
-    flat_map (all_run (map (solutions_over (domain_of l.tables) l.tables.instance.now) (drop l.part-index l.parts))) (envs_of l.from)
-    ≡ all_run (map (solutions_over (domain_of l.tables) l.tables.instance.now) l.parts) (env_of l.env)
+invariant-add_all-loop-part l = record {
+  solutions :
+      flat_map (all_run (map (solutions_over (domain_of l.tables) l.tables.instance.now) (drop l.part-index l.parts))) (envs_of l.from)
+      ≡ all_run (map (solutions_over (domain_of l.tables) l.tables.instance.now) l.parts) (env_of l.env);
+  same : l.indexes ≡ l.fn.indexes;
+}
 
 abbrev pub invariant-add_any-loop-part : goal.invariant-add_any-loop-part
-invariant-add_any-loop-part l = envs_of l.out ≡ envs_of l.fn.out ++ flat_map (λ f. solutions_over (domain_of l.tables) l.tables.instance.now f (env_of l.env)) (take l.part-index l.parts)
+invariant-add_any-loop-part l = record {
+  solutions :
+      envs_of l.out ≡ envs_of l.fn.out ++ flat_map (λ f. solutions_over (domain_of l.tables) l.tables.instance.now f (env_of l.env)) (take l.part-index l.parts);
+  same : l.indexes ≡ l.fn.indexes;
+}
 
 abbrev pub invariant-has_each-loop-env : goal.invariant-has_each-loop-env
-invariant-has_each-loop-env l =
-    list_any (λ e. not (is_empty (solutions_over (domain_of l.tables) l.tables.instance.now l.part (env_of e.items)))) l.envs
-    ≡ list_any (λ e. not (is_empty (solutions_over (domain_of l.tables) l.tables.instance.now l.part (env_of e.items)))) (drop l.env-index l.envs)
+invariant-has_each-loop-env l = record {
+  some :
+      list_any (λ e. not (is_empty (solutions_over (domain_of l.tables) l.tables.instance.now l.part (env_of e.items)))) l.envs
+      ≡ list_any (λ e. not (is_empty (solutions_over (domain_of l.tables) l.tables.instance.now l.part (env_of e.items)))) (drop l.env-index l.envs);
+  same : l.indexes ≡ l.fn.indexes;
+}
 
 abbrev pub invariant-has_any-loop-part : goal.invariant-has_any-loop-part
-invariant-has_any-loop-part l =
-    list_any (λ f. not (is_empty (solutions_over (domain_of l.tables) l.tables.instance.now f (env_of l.env)))) l.parts
-    ≡ list_any (λ f. not (is_empty (solutions_over (domain_of l.tables) l.tables.instance.now f (env_of l.env)))) (drop l.part-index l.parts)
+invariant-has_any-loop-part l = record {
+  some :
+      list_any (λ f. not (is_empty (solutions_over (domain_of l.tables) l.tables.instance.now f (env_of l.env)))) l.parts
+      ≡ list_any (λ f. not (is_empty (solutions_over (domain_of l.tables) l.tables.instance.now f (env_of l.env)))) (drop l.part-index l.parts);
+  same : l.indexes ≡ l.fn.indexes;
+}
