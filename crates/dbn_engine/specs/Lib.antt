@@ -1,3 +1,4 @@
 pub mod Asked
 pub mod Steps
 pub mod Serving
+pub mod AllLines

@@ -1,10 +1,15 @@
-//! One command over a core and a keeper: its reply, the next state of the run, and what a crash leaves.
+//! One command over a core and a keeper: its reply, the next state of the run, and what a crash leaves; and a run over all
+//! lines of a source.
 #![tactic(auto)]
 
+mod all_lines;
 mod fault;
 mod laws;
+mod run_end;
 mod serving;
 
+pub use all_lines::serve_lines;
 pub use fault::ServeFault;
 pub use laws::{lines_ask_for_what_the_net_has, lines_without_a_reply_change_nothing};
+pub use run_end::RunEnd;
 pub use serving::Serve;
