@@ -1,6 +1,5 @@
 -- A firing or a group more in the core, and a body more in the keeper.
 use Rattle.std.proofs.Common.{◌≡◌, ◌⊎◌, ℕ, ◌+◌, ◌^◌, Bool, true, false, cond, List, [], ◌∷◌, ◌++◌, length, Option, None, Some, Ok, is_some, IsTrue, inl, inr, refl, sym, ap, subst, ◌∙◌, ⊎_elim, arith}
-use Rattle.std.proofs.lemmas.Bool.{true≢false}
 use Rattle.dbn_value.specs.declared.value.Value.{Value}
 use Rattle.dbn_value.specs.declared.member.Member.{Member}
 use Rattle.dbn_net.specs.declared.decl.Decl.{Decl}
@@ -23,14 +22,10 @@ use Rattle.dbn_store.specs.Folders.Opened.{Stands}
 use Rattle.dbn_store.proofs.Replays.{store_more}
 use Rattle.dbn_command.specs.declared.reply.Reply.TheVariants as reply
 use Rattle.dbn_engine.specs.Steps.{answers, has_room, recorded, body_of, fire_made, fire_sized, fire_ready, fire_answer, group_made, group_sized, group_answer}
+use Rattle.dbn_engine.proofs.Told.{was_told}
 use Rattle.dbn_engine.specs.Serving.{Joined, StandsFor, StandsForEither, Brings, StaysSteady, AllStandNow, EitherSince, EitherNow}
 
 -- ---- what is told
-
-pub was_told : (old new : Option Folder) (f : Folder) → is_some new ≡ is_some old → new ≡ Some f → ((e : Folder) × (old ≡ Some e))
-was_told None (Some x) f same told = absurd (true≢false same)
-was_told None None f same told = cc
-was_told (Some e) new f same told = (e, refl)
 
 pub same_folder : (a b : Folder) → Some a ≡ Some b → a ≡ b
 same_folder a b e = cc

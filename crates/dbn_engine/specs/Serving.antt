@@ -99,6 +99,17 @@ pub record Stops (why : ServeFault) (old new : EngineState) (line : text.Line) (
   pub each : EitherNow old.keeper new.keeper old.run.now (step old.terms old.run line).next.now
   pub all : (why ≡ Write) ⊎ (rest ≡ []) → AllStandNow old.keeper new.keeper (step old.terms old.run line).next.now
 
+-- it holds a store where it tells what it holds, and each image of it stands for the situation of its run
+pub record IsAtRest (e : EngineState) : Type 0 where
+  pub holds : (f : Folder) → e.keeper.held ≡ Some f → (store : Store) × (f ≡ Holds store)
+  pub stands : AllStandNow e.keeper e.keeper e.run.now
+
 -- each image of a live keeper stands for the situation of its core
-pub at_rest : (live : Bool) (s : Situation) (keeper : KeeperState) → Joined live s keeper → IsSettled keeper → AllStandNow keeper keeper s
-at_rest live s keeper joined settled store told honest f image = ap meaning (settled.image (Holds store) f told honest image) ∙ ap situation_in (joined.same store told)
+pub stands_at_rest : (live : Bool) (s : Situation) (keeper : KeeperState) → Joined live s keeper → IsSettled keeper → AllStandNow keeper keeper s
+stands_at_rest live s keeper joined settled store told honest f image = ap meaning (settled.image (Holds store) f told honest image) ∙ ap situation_in (joined.same store told)
+
+pub at_rest : (live core_live : Bool) (terms : Terms) (s : Situation) (keeper : KeeperState) → Joined core_live s keeper → IsSettled keeper → IsAtRest (engine_state live terms s keeper)
+at_rest live core_live terms s keeper joined settled = record {
+  holds = λ f told. let is = settled.held f told in (record { form = keeper.form; base = keeper.base; generation = keeper.generation; bodies = is.0; torn = is.1 }, is.2);
+  stands = stands_at_rest core_live s keeper joined settled;
+}

@@ -5,7 +5,7 @@ ghost use Rattle.std.specs.Io.KnownBytes.{Appends};
 ghost use Rattle.dbn_model.specs.Content.{SameTold};
 ghost use Rattle.dbn_keeper.specs.Keeping.{Keeps};
 ghost use Rattle.dbn_engine.specs.Steps.{step};
-ghost use Rattle.dbn_engine.specs.Serving.{EngineState, line_of, EitherSince, AllStandNow, HasDiskCause, HasWriteCause, Stops};
+ghost use Rattle.dbn_engine.specs.Serving.{EngineState, line_of, EitherSince, AllStandNow, IsAtRest, HasDiskCause, HasWriteCause, Stops};
 
 use crate::fault::ServeFault;
 use dbn_io::{Line, Sink};
@@ -50,5 +50,5 @@ pub trait Serve {
         ensures write_cause { HasWriteCause (S.faults out.old) (S.faults out.new) result };
 
     /// Each image of a live one stands for the situation of its run.
-    ghost at_rest: { (e : Self) → IsTrue (state e).live → AllStandNow (state e).keeper (state e).keeper (state e).run.now };
+    ghost at_rest: { (e : Self) → IsTrue (state e).live → IsAtRest (state e) };
 }
