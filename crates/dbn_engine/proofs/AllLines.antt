@@ -1,5 +1,5 @@
 -- What is known between two lines of a run, and what stands where it ends.
-use Rattle.std.proofs.Common.{◌≡◌, ◌⊎◌, ℕ, suc, ◌+◌, ◌-◌, ◌<◌, ◌≤◌, Bool, true, false, List, [], ◌∷◌, ◌++◌, length, take, Option, None, Some, IsTrue, inl, inr, refl, sym, ap, subst, ◌∙◌, ⊎_elim, arith, append_assoc, append-nil, length-append}
+use Rattle.std.proofs.Common.{◌≡◌, ◌⊎◌, ℕ, suc, ◌+◌, ◌-◌, ◌<◌, ◌≤◌, Bool, true, List, [], ◌∷◌, ◌++◌, length, take, Option, Some, IsTrue, inl, inr, refl, sym, ap, subst, ◌∙◌, ⊎_elim, arith, append_assoc, append-nil, length-append}
 use Rattle.std.specs.Prelude.{cond}
 use Rattle.std.proofs.lemmas.Bool.{lt-ltb, le-ltb}
 use Rattle.std.proofs.Math.Seq.{take-append_seam}
@@ -8,16 +8,16 @@ use Rattle.std.specs.Io.KnownBytes.{Appends, Consumes}
 use Rattle.dbn_model.specs.Lines.{Line, due_lines, whole_lines}
 use Rattle.dbn_model.specs.Runs.{Step, text_of, state_after, replies, answered}
 use Rattle.dbn_model.proofs.RunLaws.{text-append, state-append, state-take, answered-append, answered-blank, answered-first, answered-none}
-use Rattle.dbn_io.specs.Reading.{Reading, HasRead, GivesNext, is_end}
+use Rattle.dbn_io.specs.Reading.{Reading, HasRead, GivesNext}
 use Rattle.dbn_io.specs.declared.lines.Line.{Line as Given}
 use Rattle.dbn_io.specs.declared.lines.Line.TheVariants.{Bytes, Long, End}
 use Rattle.dbn_keeper.specs.Files.{Store, Folder}
 use Rattle.dbn_keeper.specs.Files.Folder.{Holds}
-use Rattle.dbn_keeper.specs.Keeping.{KeeperState, Keeps}
+use Rattle.dbn_keeper.specs.Keeping.{Keeps}
 use Rattle.dbn_store.specs.States.{Situation, RunState}
 use Rattle.dbn_store.specs.Folders.{meaning}
 use Rattle.dbn_engine.specs.Steps.{Terms, step}
-use Rattle.dbn_engine.specs.Serving.{EngineState, Stops, IsAtRest, AllStandNow, line_of}
+use Rattle.dbn_engine.specs.Serving.{EngineState, Stops, IsAtRest, line_of}
 use Rattle.dbn_engine.specs.AllLines.{is_whole, due_end, StandsAfter, Serves}
 use Rattle.dbn_engine.specs.declared.fault.ServeFault.{ServeFault}
 use Rattle.dbn_engine.specs.declared.fault.ServeFault.TheVariants as fault
@@ -169,7 +169,7 @@ serves ended most all old new left left_after out out_after lines more front res
   run = run;
   stands = λ store told honest f image.
       let here = subst (λ (l : List Line). At ended old.terms old.run l (length (text_of (step old.terms) old.run lines) + length front) (meaning f)) (sym is)
-          (shift ended old.terms old.run lines more (length front) (meaning f) (at store told honest f image)) in
+      (shift ended old.terms old.run lines more (length front) (meaning f) (at store told honest f image)) in
       let there = subst (λ (k : ℕ). At ended old.terms old.run (due_lines most all) k (meaning f)) (sym (length-append (text_of (step old.terms) old.run lines) front)) here in
       (there.n, there.after, there.is);
 }
@@ -232,10 +232,12 @@ serves_stopped why most all old mid new left left_after out mid_out out_new line
     (λ e. absurd (not_whole why e)) (λ e. absurd (not_read why e))
     (λ e. ⊎_elim
     (λ none. (length lines, ap (λ (l : List ℕ). text ++ l) none ∙ append-nil text ∙ ap (text_of (step old.terms) old.run) (sym (take-append_seam lines (line ∷ more)) ∙ ap (take (length lines)) (sym here))))
-    (λ all_of. (length (lines ++ line ∷ []),
+    (λ all_of. (
+      length (lines ++ line ∷ []),
       ap (λ (l : List ℕ). text ++ l) (sym (append-nil s.front) ∙ ap (λ (l : List ℕ). s.front ++ l) (sym all_of) ∙ sym reply ∙ sym (append-nil (step old.terms now line).reply))
-      ∙ sym (text-append (step old.terms) old.run lines (line ∷ []))
-      ∙ ap (text_of (step old.terms) old.run) (sym (take-append_seam (lines ++ line ∷ []) more) ∙ ap (take (length (lines ++ line ∷ []))) (sym is))))
+          ∙ sym (text-append (step old.terms) old.run lines (line ∷ []))
+          ∙ ap (text_of (step old.terms) old.run) (sym (take-append_seam (lines ++ line ∷ []) more) ∙ ap (take (length (lines ++ line ∷ []))) (sym is)),
+    ))
     (s.disk (is_disk why e)))
     (λ e. absurd (not_whole why e))
     (λ store told honest f image.

@@ -1,7 +1,7 @@
 -- What a line asks for is of the net.
-use Rattle.std.proofs.Common.{◌≡◌, ◌⊎◌, ℕ, zero, suc, ◌+◌, ◌==◌, ◌<◌, ◌≤◌, Bool, true, false, cond, ◌&&◌, List, [], ◌∷◌, length, map, Option, None, Some, Result, Ok, Err, inl, inr, refl, sym, ap, subst, ◌∙◌, ⊎_elim, arith, eqb-true}
+use Rattle.std.proofs.Common.{◌≡◌, ◌⊎◌, ℕ, zero, suc, ◌==◌, ◌<◌, ◌≤◌, Bool, true, false, cond, ◌&&◌, List, [], ◌∷◌, length, map, Option, None, Some, Result, Ok, Err, inl, inr, refl, sym, ap, subst, ◌∙◌, ⊎_elim, arith, eqb-true}
 use Rattle.std.specs.Prelude.{if◌then◌else◌, nat_le, slice_get, bytes_eq, codes}
-use Rattle.std.specs.List.{list_all, slice_split, onto_first, AllByRecursion}
+use Rattle.std.specs.List.{list_all, slice_split, onto_first}
 use Rattle.std.specs.Option.{option_map_or}
 use Rattle.std.proofs.lemmas.List.{length-map}
 use Rattle.std.proofs.lemmas.Bool.{and_parts, leb-true}
@@ -18,14 +18,14 @@ use Rattle.dbn_net.specs.Enabled.{shape_at}
 use Rattle.dbn_net.specs.Judging.{as_many, row_fits}
 use Rattle.dbn_net.specs.Naming.{number_of}
 use Rattle.dbn_net.proofs.NamedLaws.{number_within}
-use Rattle.dbn_core.specs.Group.{IsMember, AreMembers}
+use Rattle.dbn_core.specs.Group.{AreMembers}
 use Rattle.dbn_command.specs.declared.command.Command.{Command}
 use Rattle.dbn_command.specs.declared.command.Command.TheVariants.{Blank, Bindings, Fire, Group, Marking, Facts, Checkpoint}
 use Rattle.dbn_command.specs.declared.fault.LineFault.{LineFault}
-use Rattle.dbn_command.specs.declared.fault.LineFault.TheVariants.{Line, Unknown, Shape}
+use Rattle.dbn_command.specs.declared.fault.LineFault.TheVariants.{Line, Shape}
 use Rattle.dbn_command.specs.Gives.{◌>>=◌, each, found_or}
 use Rattle.dbn_command.specs.Tokens.{tokens}
-use Rattle.dbn_command.specs.Lines.{number_in, member_of, member_in, call_in, group_in, few_calls, is_semicolon, most_members, has_shape, fits, one_name, bindings_in, marking_in, facts_in, fire_in, members_of_group_in, checkpoint_in, is_comment, verb_in, command_in, asked}
+use Rattle.dbn_command.specs.Lines.{number_in, member_of, member_in, call_in, group_in, is_semicolon, most_members, fits, one_name, bindings_in, marking_in, facts_in, fire_in, members_of_group_in, checkpoint_in, is_comment, verb_in, command_in, asked}
 use Rattle.dbn_engine.specs.Asked.{IsOf}
 
 -- ---- parts of readings

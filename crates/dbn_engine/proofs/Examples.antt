@@ -1,5 +1,5 @@
 -- Answers to firings and groups of a small net, computed.
-use Rattle.std.proofs.Common.{◌≡◌, ℕ, Bool, true, false, List, [], ◌∷◌, codes, Option, None, Some, refl}
+use Rattle.std.proofs.Common.{◌≡◌, ℕ, true, false, List, [], ◌∷◌, codes, None, Some, refl}
 use Rattle.dbn_value.specs.declared.member.Member.{Member}
 use Rattle.dbn_net.specs.declared.rules.Pattern.{Pattern}
 use Rattle.dbn_net.specs.declared.rules.Transition.{Transition}
@@ -9,11 +9,10 @@ use Rattle.dbn_net.specs.declared.decl.Decl.TheVariants.{Site, Trans}
 use Rattle.dbn_codec.specs.Bodies.{member_bytes, group_body}
 use Rattle.dbn_keeper.specs.declared.opening.Form.{Form}
 use Rattle.dbn_keeper.specs.declared.opening.Form.TheVariants.{One, Two}
-use Rattle.dbn_command.specs.declared.reply.Reply.{Reply}
 use Rattle.dbn_command.specs.declared.reply.Reply.TheVariants as reply
 use Rattle.dbn_command.specs.declared.reply.MemberWhy.TheVariants as why
 use Rattle.dbn_store.specs.States.{Situation, situation, RunState}
-use Rattle.dbn_engine.specs.Steps.{Terms, Answer, answers, fire_answer, group_answer, is_due}
+use Rattle.dbn_engine.specs.Steps.{answers, fire_answer, group_answer, is_due}
 
 abbrev token : Pattern
 token = record { many = 1; terms = [] }

@@ -1,27 +1,24 @@
 -- A firing or a group more in the core, and a body more in the keeper.
-use Rattle.std.proofs.Common.{◌≡◌, ◌⊎◌, ℕ, ◌+◌, ◌^◌, Bool, true, false, cond, List, [], ◌∷◌, ◌++◌, length, Option, None, Some, Ok, is_some, IsTrue, inl, inr, refl, sym, ap, subst, ◌∙◌, ⊎_elim, arith}
+use Rattle.std.proofs.Common.{◌≡◌, ◌⊎◌, ℕ, Bool, true, cond, List, [], ◌∷◌, length, None, Some, Ok, is_some, IsTrue, inl, inr, sym, ap, subst, ◌∙◌, ⊎_elim}
 use Rattle.dbn_value.specs.declared.value.Value.{Value}
 use Rattle.dbn_value.specs.declared.member.Member.{Member}
-use Rattle.dbn_net.specs.declared.decl.Decl.{Decl}
 use Rattle.dbn_net.specs.declared.snapshot.Snapshot.{Snapshot}
 use Rattle.dbn_net.specs.Tables.{shapes}
 use Rattle.dbn_codec.specs.Bodies.{member_of}
-use Rattle.dbn_keeper.specs.Files.{Store, Folder, with_body, new_store}
+use Rattle.dbn_keeper.specs.Files.{Store, Folder, with_body}
 use Rattle.dbn_keeper.specs.Files.Folder.{Holds}
-use Rattle.dbn_keeper.specs.Keeping.{KeeperState, IsSettled, IsSound, BringsOnly, Keeps, is_within}
-use Rattle.dbn_keeper.specs.declared.base.Base.{Base}
+use Rattle.dbn_keeper.specs.Keeping.{KeeperState, IsSettled, IsSound, BringsOnly, Keeps}
 use Rattle.dbn_keeper.specs.declared.opening.Form.{Form}
 use Rattle.dbn_keeper.proofs.Crashes.{brings_both, since_live, now_live}
 use Rattle.dbn_core.specs.declared.outcome.Fired.{Fired}
-use Rattle.dbn_core.specs.declared.outcome.Refusal.{Refusal}
-use Rattle.dbn_core.specs.Fire.{Firing, fire_at, refusal_at}
-use Rattle.dbn_core.specs.Group.{Grouping, group}
-use Rattle.dbn_store.specs.States.{Situation, situation, RunState, run_state}
-use Rattle.dbn_store.specs.Folders.{members_in, Opened, opened, situation_in, meaning}
+use Rattle.dbn_core.specs.Fire.{fire_at, refusal_at}
+use Rattle.dbn_core.specs.Group.{group}
+use Rattle.dbn_store.specs.States.{Situation, situation, RunState}
+use Rattle.dbn_store.specs.Folders.{members_in, opened, situation_in, meaning}
 use Rattle.dbn_store.specs.Folders.Opened.{Stands}
 use Rattle.dbn_store.proofs.Replays.{store_more}
 use Rattle.dbn_command.specs.declared.reply.Reply.TheVariants as reply
-use Rattle.dbn_engine.specs.Steps.{answers, has_room, recorded, body_of, fire_made, fire_sized, fire_ready, fire_answer, group_made, group_sized, group_answer}
+use Rattle.dbn_engine.specs.Steps.{answers, has_room, body_of, fire_made, fire_ready, fire_answer}
 use Rattle.dbn_engine.proofs.Told.{was_told}
 use Rattle.dbn_engine.specs.Serving.{Joined, StandsFor, StandsForEither, Brings, StaysSteady, AllStandNow, EitherSince, EitherNow}
 

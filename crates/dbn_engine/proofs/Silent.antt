@@ -1,5 +1,5 @@
 -- A line without a reply changes nothing.
-use Rattle.std.proofs.Common.{◌≡◌, ℕ, Bool, true, false, cond, List, [], ◌∷◌, ◌++◌, length, Option, None, Some, Result, Ok, Err, refl, sym, ap, ◌∙◌, codes}
+use Rattle.std.proofs.Common.{◌≡◌, ℕ, Bool, true, false, cond, List, [], ◌∷◌, ◌++◌, length, Option, None, Some, Result, Ok, Err, refl, ap, ◌∙◌}
 use Rattle.std.specs.Prelude.{is_some}
 use Rattle.dbn_model.specs.Lines.{Line}
 use Rattle.dbn_model.specs.Lines.Line.{Text, Long}
@@ -19,7 +19,7 @@ use Rattle.dbn_core.specs.declared.outcome.Refusal.{Refusal}
 use Rattle.dbn_core.specs.Fire.{Firing, fire_at, refusal_at}
 use Rattle.dbn_core.specs.Group.{Grouping, group}
 use Rattle.dbn_store.specs.States.{RunState}
-use Rattle.dbn_engine.specs.Steps.{Terms, Answer, has_room, body_of, fire_made, fire_sized, fire_ready, fire_answer, is_too_old, group_made, group_sized, group_answer, command_answer, asked_answer, line_answer, tended, said, behind, step_of, step}
+use Rattle.dbn_engine.specs.Steps.{Terms, Answer, has_room, body_of, fire_made, fire_ready, is_too_old, group_made, group_sized, command_answer, asked_answer, line_answer, tended, said, behind, step}
 
 ends : (xs : List ℕ) (b : ℕ) → xs ++ b ∷ [] ≡ [] → ⊥
 ends [] b e = cc

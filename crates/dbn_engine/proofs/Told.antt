@@ -1,5 +1,5 @@
 -- What is told of a folder stays told.
-use Rattle.std.proofs.Common.{◌≡◌, Bool, true, false, Option, None, Some, is_some, IsTrue, refl, sym, ap, subst, ◌∙◌}
+use Rattle.std.proofs.Common.{◌≡◌, Option, None, Some, is_some, IsTrue, refl, sym, ap, subst, ◌∙◌}
 use Rattle.std.proofs.lemmas.Bool.{true≢false}
 use Rattle.dbn_keeper.specs.Files.{Store, Folder}
 use Rattle.dbn_keeper.specs.Files.Folder.{Holds}

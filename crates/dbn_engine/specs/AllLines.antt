@@ -2,13 +2,13 @@
 use Rattle.std.specs.Prelude.{◌≡◌, ◌⊎◌, ℕ, ◌+◌, ◌≤◌, Bool, true, false, cond, nat_lt, List, [], ◌++◌, length, take, Option, Some, IsTrue}
 use Rattle.std.specs.Io.KnownBytes.{Appends, Consumes}
 use Rattle.dbn_model.specs.Causes.{Rose}
-use Rattle.dbn_model.specs.Lines.{Line, due_lines, whole_lines}
+use Rattle.dbn_model.specs.Lines.{due_lines, whole_lines}
 use Rattle.dbn_model.specs.Runs.{text_of, state_after, replies, answered}
 use Rattle.dbn_keeper.specs.Files.{Store, Folder}
 use Rattle.dbn_keeper.specs.Files.Folder.{Holds}
 use Rattle.dbn_keeper.specs.Keeping.{NoneFalls, RoseIn}
 use Rattle.dbn_store.specs.States.{RunState}
-use Rattle.dbn_engine.specs.Steps.{Terms, step}
+use Rattle.dbn_engine.specs.Steps.{step}
 use Rattle.dbn_engine.specs.Serving.{EngineState, StandsFor}
 use Rattle.dbn_engine.specs.declared.run_end.RunEnd.{RunEnd}
 use Rattle.dbn_engine.specs.declared.run_end.RunEnd.TheVariants.{Done, ReadFault, WriteFault, DiskFault, InputLimit, Memory}

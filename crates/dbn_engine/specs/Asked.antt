@@ -1,5 +1,5 @@
 -- Commands that a core of a net can be asked for.
-use Rattle.std.specs.Prelude.{ℕ, ◌<◌, ◌≤◌, List, length}
+use Rattle.std.specs.Prelude.{◌<◌, ◌≤◌, List, length}
 use Rattle.dbn_formula.specs.Solutions.{HasShape}
 use Rattle.dbn_net.specs.declared.decl.Decl.{Decl}
 use Rattle.dbn_net.specs.Tables.{relations, places, transitions}

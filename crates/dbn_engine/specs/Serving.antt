@@ -7,14 +7,13 @@ use Rattle.dbn_io.specs.declared.trouble.Trouble.{Trouble}
 use Rattle.dbn_io.specs.declared.trouble.Trouble.TheVariants as trouble
 use Rattle.dbn_model.specs.Causes.{Rose}
 use Rattle.dbn_model.specs.Lines as text
-use Rattle.dbn_net.specs.declared.decl.Decl.{Decl}
 use Rattle.dbn_keeper.specs.Files.{Store, Folder}
 use Rattle.dbn_keeper.specs.Files.Folder.{Holds}
 use Rattle.dbn_keeper.specs.Keeping.{KeeperState, NoneFalls, RoseIn, IsSettled, BringsOnly}
 use Rattle.dbn_store.specs.States.{Situation, RunState, run_state}
 use Rattle.dbn_store.specs.Folders.{opened, situation_in, meaning}
 use Rattle.dbn_store.specs.Folders.Opened.{Stands}
-use Rattle.dbn_engine.specs.Steps.{Terms, Answer, said, step}
+use Rattle.dbn_engine.specs.Steps.{Terms, step}
 use Rattle.dbn_engine.specs.declared.fault.ServeFault.{ServeFault}
 use Rattle.dbn_engine.specs.declared.fault.ServeFault.TheVariants.{Write, Disk, Memory}
 

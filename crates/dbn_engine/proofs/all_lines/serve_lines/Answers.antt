@@ -1,11 +1,10 @@
-use Rattle.std.proofs.Common.{◌≡◌, ◌<◌, List, [], ◌++◌, ◌∷◌, ℕ, false, true, nat_lt, cond, Bool, rules, inl, inr, refl, sym, ap, subst, ◌∙◌, append-nil, arith, length}
+use Rattle.std.proofs.Common.{[], ◌++◌, ◌∷◌, rules, inl, refl, arith}
 use Rattle.std.proofs.KnownBytes.{Consumes-nil}
 use Rattle.dbn_model.specs.Lines.{due_lines}
 use Rattle.dbn_io.proofs.RunLaws.{taken-so-far}
 use Rattle.dbn_engine.specs.Serving.{line_of}
 use Rattle.dbn_engine.specs.declared.fault.ServeFault.TheVariants as fault
-use Rattle.dbn_engine.specs.declared.run_end.RunEnd.{RunEnd}
-use Rattle.dbn_engine.specs.declared.run_end.RunEnd.TheVariants.{Done, ReadFault, WriteFault, DiskFault, InputLimit, Memory}
+use Rattle.dbn_engine.specs.declared.run_end.RunEnd.TheVariants.{Done, ReadFault, InputLimit, Memory}
 use Rattle.dbn_engine.proofs.Told.{keeps_on}
 use Rattle.dbn_engine.proofs.AllLines.{none_answered, one_more, given_line, serves_all, serves_between, serves_stopped, ends_within, ends_over}
 use Rattle.dbn_engine.proofs.all_lines.serve_lines.Goals as goal
