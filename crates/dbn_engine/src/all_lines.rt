@@ -15,9 +15,10 @@ use std::alloc::Global;
 
 /// Serves each line of a source, of which at most `most` bytes are taken, and one more where there are more.
 ///
-/// The first trouble ends the run, and a front of the replies was written then. A crash behind the run leaves a folder that
-/// stands for a front of the lines that holds every line whose reply was written whole. `ReadFault`, `WriteFault` and
-/// `DiskFault` come only where a count of faults rose. After `Done`, `ReadFault` and `InputLimit` the engine is live.
+/// The first trouble ends the run, and a front of the replies was written then. A crash behind the run leaves a folder
+/// that stands for a front of the lines that holds every line whose reply was written whole. `ReadFault`, `WriteFault`
+/// and `DiskFault` come only where a count of faults rose. After `Done`, `ReadFault` and `InputLimit` the engine is
+/// live.
 pub fn serve_lines<E: Serve, C: Source, K: Sink>(
     alloc: Global,
     engine: &mut E,

@@ -1,5 +1,5 @@
-//! One command over a core and a keeper: its reply, the next state of the run, and what a crash leaves; and a run over all
-//! lines of a source.
+//! One command over a core and a keeper: its reply, the next state of the run, and what a crash leaves; and a run over
+//! all lines of a source.
 #![tactic(auto)]
 
 mod all_lines;

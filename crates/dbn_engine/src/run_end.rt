@@ -3,7 +3,8 @@
 pub enum RunEnd {
     /// All lines were answered, and the source was read to its end.
     Done,
-    /// The source failed: its count of faults rose in this run. Each line that ended within the bytes taken was answered.
+    /// The source failed: its count of faults rose in this run. Each line that ended within the bytes taken was
+    /// answered.
     ReadFault,
     /// The sink failed: its count of faults rose in this run. Something of a reply is missing.
     WriteFault,
