@@ -6,8 +6,6 @@ use Rattle.dbn_keeper.specs.Files.{opening_of}
 use Rattle.dbn_keeper.specs.Reading.{HoldsBase}
 use Rattle.dbn_keeper.specs.TwoFiles.{gives_way}
 use Rattle.dbn_keeper.specs.declared.base.Base.{Base}
-use Rattle.dbn_keeper.specs.declared.find.FindFault.{FindFault}
-use Rattle.dbn_keeper.specs.declared.find.FindFault.TheVariants.{Failed}
 use Rattle.dbn_keeper.specs.declared.opening.Form.{Form}
 use Rattle.dbn_keeper.specs.declared.opening.Opening.{Opening}
 use Rattle.dbn_keeper.specs.declared.opening.Opening.TheVariants.{NotOpen, Foreign, Marked}
@@ -42,9 +40,9 @@ pub record OnlySynced (old new : DiskState) : Type 0 where
   pub images : IsTrue old.honest → (c : List ℕ) → new.image c → old.image c
   pub keeps : Keeps old new
 
--- no count falls, a failure comes only where one rose, and always where one rose
-pub record HasCauseOfTwo {T : Type 0} (a new_a b new_b : ℕ) (result : Result T FindFault) : Type 0 where
+-- no count falls, this failure comes only where one rose, and always where one rose
+pub record HasCauseOfTwo {T E : Type 0} (failure : E) (a new_a b new_b : ℕ) (result : Result T E) : Type 0 where
   pub later_a : a ≤ new_a
   pub later_b : b ≤ new_b
-  pub failed : IsErrOf result Failed → Rose a new_a ⊎ Rose b new_b
-  pub kept : (IsErrOf result Failed → ⊥) → (new_a ≡ a) × (new_b ≡ b)
+  pub failed : IsErrOf result failure → Rose a new_a ⊎ Rose b new_b
+  pub kept : (IsErrOf result failure → ⊥) → (new_a ≡ a) × (new_b ≡ b)

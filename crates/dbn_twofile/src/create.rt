@@ -1,12 +1,12 @@
 //! Making a store on two disks.
 
-ghost use Rattle.std.specs.Prelude.{◌≡◌, ◌⊎◌, ◌^◌, ◌≤◌, List, ℕ, Some, length, OnOk, IsErrOf, IsTrue};
-ghost use Rattle.dbn_model.specs.Causes.{Rose};
+ghost use Rattle.std.specs.Prelude.{◌≡◌, ◌^◌, ◌≤◌, List, ℕ, Some, length, OnOk, IsTrue};
 ghost use Rattle.dbn_disk.specs.Disk.{Only, Keeps, LeavesOnly};
 ghost use Rattle.dbn_keeper.specs.Creating.{any_open, is_made, is_allowed, Says, IsNoneOrNew};
 ghost use Rattle.dbn_keeper.specs.Files.{folder, new_store};
 ghost use Rattle.dbn_keeper.specs.Files.Folder.{NotMade, Holds};
 ghost use Rattle.dbn_keeper.specs.declared.create.CreateFault.{CreateFault};
+ghost use Rattle.dbn_twofile.specs.Finding.{HasCauseOfTwo};
 
 use crate::two::TwoFile;
 use dbn_disk::Disk;
@@ -20,7 +20,7 @@ impl<D: Disk + Drop> TwoFile<D> {
     ///
     /// `Exists` comes exactly where a file is open, and then the bytes that both disks hold stay and each image of a disk
     /// was one before, with every answer. `Full` comes exactly where no file is open and the text passes `net_bytes` or
-    /// the new file passes `file_bytes`. `Failed` comes only where the count of faults of a disk rose. Where no file is
+    /// the new file passes `file_bytes`. `Failed` comes exactly where the count of faults of a disk rose. Where no file is
     /// open and all is stable, a crash at any moment leaves no store or the new one; from `Ok` on it leaves the new one.
     pub fn create(
         alloc: Global,
@@ -41,7 +41,9 @@ impl<D: Disk + Drop> TwoFile<D> {
         ensures kept_b { IsTrue (D.state b.old).honest → LeavesOnly (D.state b.old) (D.state b.new) (D.state b.old).image }
         ensures keeps_a { Keeps (D.state a.old) (D.state a.new) }
         ensures keeps_b { Keeps (D.state b.old) (D.state b.new) }
-        ensures failed { IsErrOf result CreateFault.Failed → Rose (D.state a.old).faults (D.state a.new).faults ⊎ Rose (D.state b.old).faults (D.state b.new).faults }
+        ensures settled_a { OnOk result ((x u : List ℕ) → (D.state a.old).content ≡ Some x → IsTrue (D.state a.old).honest → (D.state a.new).content ≡ Some u → Only u (D.state a.new).image) }
+        ensures settled_b { OnOk result ((y v : List ℕ) → (D.state b.old).content ≡ Some y → IsTrue (D.state b.old).honest → (D.state b.new).content ≡ Some v → Only v (D.state b.new).image) }
+        ensures cause { HasCauseOfTwo CreateFault.Failed (D.state a.old).faults (D.state a.new).faults (D.state b.old).faults (D.state b.new).faults result }
     {
         let first = settle(a)?;
         let second = settle(b)?;

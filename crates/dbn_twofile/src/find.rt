@@ -32,8 +32,8 @@ pub struct NotFound<D: Disk + Drop> {
 impl<D: Disk + Drop> TwoFile<D> {
     /// A keeper of the store on these two disks, before its first body. Both disks are synced, and nothing is written.
     ///
-    /// `NotMade` comes exactly where no file is open, `NotAStore` exactly where what is open is no store, `Failed` only
-    /// where the count of faults of a disk rose. With every answer what is held stays, and each image of a disk was one
+    /// `NotMade` comes exactly where no file is open, `NotAStore` exactly where what is open is no store, `Failed`
+    /// exactly where the count of faults of a disk rose. With every answer what is held stays, and each image of a disk was one
     /// before.
     pub fn find(alloc: Global, a: D, b: D, limits: &Limits) -> Result<TwoFile<D>, NotFound<D>>
         ensures store { IfOk result (λ k. (x y : List ℕ) → (D.state a).content ≡ Some x → (D.state b).content ≡ Some y → both_held k.swapped (D.state k.chosen).content (D.state k.other).content ≡ Some (folder x y)) }
@@ -44,6 +44,8 @@ impl<D: Disk + Drop> TwoFile<D> {
         ensures not_made { IfErr result (λ e. e.why ≡ FindFault.NotMade → (x y : List ℕ) → (D.state a).content ≡ Some x → (D.state b).content ≡ Some y → folder x y ≡ NotMade) }
         ensures not_a_store { IfErr result (λ e. e.why ≡ FindFault.NotAStore → (x y : List ℕ) → (D.state a).content ≡ Some x → (D.state b).content ≡ Some y → folder x y ≡ NotAStore) }
         ensures failed { IfErr result (λ e. e.why ≡ FindFault.Failed → Rose (D.state a).faults (D.state e.a).faults ⊎ Rose (D.state b).faults (D.state e.b).faults) }
+        ensures calm { IfErr result (λ e. (e.why ≡ FindFault.Failed → ⊥) → ((D.state e.a).faults ≡ (D.state a).faults) × ((D.state e.b).faults ≡ (D.state b).faults)) }
+        ensures counts { IfErr result (λ e. ((D.state a).faults ≤ (D.state e.a).faults) × ((D.state b).faults ≤ (D.state e.b).faults)) }
         ensures back_a { IfErr result (λ e. OnlySynced (D.state a) (D.state e.a)) }
         ensures back_b { IfErr result (λ e. OnlySynced (D.state b) (D.state e.b)) }
     {
@@ -56,12 +58,13 @@ impl<D: Disk + Drop> TwoFile<D> {
     }
 
     /// The first disk and the second one, as they stand. On one of them at least nothing is pending. Each pair of their
-    /// images is one of the keeper's images.
+    /// images is one of the keeper's images. Where the keeper is live, nothing is pending on either.
     #[tactic(auto, using(crate::proofs::Rests::one_stable, crate::proofs::Rests::one_stable_turned, crate::proofs::Rests::images_plain, crate::proofs::Rests::images_turned))]
     pub fn into_disks(self) -> (D, D)
         ensures first { result.0 ≡ cond self.swapped self.other self.chosen }
         ensures second { result.1 ≡ cond self.swapped self.chosen self.other }
         ensures rests { IsStable (D.state result.0) ⊎ IsStable (D.state result.1) }
+        ensures settled { IsTrue self.live → IsStable (D.state result.0) × IsStable (D.state result.1) }
         ensures images { (x y : List ℕ) → (D.state result.0).image x → (D.state result.1).image y → ((u : List ℕ) × (v : List ℕ) × (D.state self.chosen).image u × (D.state self.other).image v × (pair_of self.swapped u v ≡ folder x y)) }
     {
         if self.swapped {

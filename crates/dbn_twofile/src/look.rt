@@ -66,7 +66,7 @@ pub(crate) fn look<D: Disk>(alloc: Global, a: &mut D, b: &mut D) -> Result<Found
     ensures settled_b { OnOk result ((y : List ℕ) → (D.state b.old).content ≡ Some y → IsTrue (D.state b.old).honest → Only y (D.state b.new).image) }
     ensures disk_a { OnlySynced (D.state a.old) (D.state a.new) }
     ensures disk_b { OnlySynced (D.state b.old) (D.state b.new) }
-    ensures cause { HasCauseOfTwo (D.state a.old).faults (D.state a.new).faults (D.state b.old).faults (D.state b.new).faults result }
+    ensures cause { HasCauseOfTwo FindFault.Failed (D.state a.old).faults (D.state a.new).faults (D.state b.old).faults (D.state b.new).faults result }
 {
     let first = settle(a)?;
     let second = settle(b)?;

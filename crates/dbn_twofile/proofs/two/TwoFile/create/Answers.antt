@@ -91,3 +91,14 @@ returns-clause-kept g c x y told_x told_y made =
 pub returns-clause-kept_a : goal.returns-clause-kept_a
 returns-clause-kept_a g c x y told_x told_y made honest =
     let none : is_made (folder x y) ≡ false = made_is c.in_ok-first.first c.in_ok-second.second x y false (c.in_ok-first.ensures.opening x told_x) (c.in_ok-second.ensures.opening y told_y) (sym c.any_open.ensures ∙ c.if-any_open.false) in absurd (true≢false (sym made ∙ none))
+
+pub returns-clause-settled_a : goal.returns-clause-settled_a
+returns-clause-settled_a g c x u told honest held d image =
+    let base = c.args.base.now in
+    let is : u ≡ file_of 1 base = same_some u (file_of 1 base) (sym held ∙ c.in_ok-make_new.ensures.value x (c.settle.ensures.same ∙ told)) in
+    c.in_ok-make_new.ensures.durable x (c.settle.ensures.same ∙ told) (subst IsTrue (sym c.settle.ensures.keeps.honest) honest) d image ∙ sym is
+
+pub returns-clause-settled_b : goal.returns-clause-settled_b
+returns-clause-settled_b g c y v told honest held d image =
+    let same : v ≡ y = same_some v y (sym held ∙ c.settle-2.ensures.same ∙ told) in
+    c.in_ok-second.ensures.settled y told honest d image ∙ sym same
