@@ -3,6 +3,7 @@ pub mod BrokenLaws
 pub mod DepthLaws
 pub mod GuardLaws
 pub mod IdLaws
+pub mod InputLaws
 pub mod JudgingLaws
 pub mod LightLaws
 pub mod ListsLaws
@@ -19,3 +20,4 @@ pub mod ShortLaws
 pub mod StartLaws
 pub mod TermLaws
 pub mod UsedLaws
+pub mod WrittenWeights

@@ -5,6 +5,7 @@ pub mod Gives
 pub mod Judged
 pub mod Light
 pub mod Reading
+pub mod Resolving
 pub mod Short
 pub mod Terms
 pub mod Used

@@ -19,6 +19,7 @@ mod names;
 mod numbers;
 mod queue;
 mod reading;
+mod resolving;
 mod terms;
 mod typing;
 mod words;

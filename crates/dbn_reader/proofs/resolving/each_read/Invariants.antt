@@ -1,0 +1,10 @@
+use Rattle.std.proofs.Common.{◌≡◌, length}
+use Rattle.dbn_net.specs.Maybe.{each, each_from}
+use Rattle.dbn_net.specs.Naming.{read}
+use Rattle.dbn_reader.proofs.resolving.each_read.Given as goal
+
+abbrev pub invariant-loop-atom : goal.invariant-loop-atom
+invariant-loop-atom l = each (read l.net) l.fn.written ≡ each_from (read l.net) l.made l.left
+
+abbrev pub decreases-loop-atom : goal.decreases-loop-atom
+decreases-loop-atom l = length l.left
