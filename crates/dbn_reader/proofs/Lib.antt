@@ -19,5 +19,6 @@ pub mod SeenNames
 pub mod ShortLaws
 pub mod StartLaws
 pub mod TermLaws
+pub mod TransitionLaws
 pub mod UsedLaws
 pub mod WrittenWeights

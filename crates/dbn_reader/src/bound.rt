@@ -76,12 +76,7 @@ impl Firsts {
 
 /// Appends the variable, unless it is there already.
 #[tactic(auto, unfolding(crate::specs::Bound::with_typed))]
-fn add_first(
-    alloc: Global,
-    firsts: &mut Firsts,
-    var: &Var,
-    kind: ColType,
-) -> Result<(), AllocError>
+fn add_first(alloc: Global, firsts: &mut Firsts, var: &Var, kind: ColType) -> Result<(), AllocError>
     ensures { OnOk result (firsts.new ≡ with_typed firsts.old (var.now, kind)) }
 {
     if firsts.has(var) {

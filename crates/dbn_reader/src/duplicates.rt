@@ -181,7 +181,9 @@ fn lists_once(alloc: Global, net: &Net, written: &Written) -> Result<bool, Alloc
         Written::Relation { fields, .. } => once::<(Name, ColType)>(alloc, fields.as_slice()),
         Written::Key { fields, .. } => names_once(alloc, fields.as_slice()),
         Written::Foreign {
-            fields, to_fields, ..
+            fields,
+            to_fields,
+            ..
         } => {
             if !names_once(alloc, fields.as_slice())? {
                 return Ok(false);

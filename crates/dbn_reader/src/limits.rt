@@ -288,11 +288,7 @@ fn few_of_kind(net: &Net, written: &Written) -> bool
 
 /// Whether the declaration is within the limits behind those of the net. An error is want of memory.
 #[tactic(auto, using(crate::proofs::ShortLaws::written_laws))]
-pub(crate) fn within_limits(
-    alloc: Global,
-    net: &Net,
-    written: &Written,
-) -> Result<bool, AllocError>
+pub(crate) fn within_limits(alloc: Global, net: &Net, written: &Written) -> Result<bool, AllocError>
     ensures { IfOk result (λ ok. ok ≡ within_limits net.now written.now) }
 {
     if !short_written(written) {

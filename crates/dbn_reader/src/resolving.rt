@@ -8,7 +8,7 @@ ghost use Rattle.dbn_net.specs.Tables.{relations, relation_names};
 ghost use Rattle.dbn_net.specs.Naming.{number_of, resolved_formula, count, pattern, arc, read, call, ins_of, reads_of, is_in_clause, transition, fields_of, resolved_key, resolved_foreign, fact_pattern, resolved_action, resolved};
 ghost use Rattle.dbn_net.specs.declared.written.WrittenInput.{WrittenInput as Clause};
 ghost use Rattle.dbn_reader.specs.Gives.{Gives};
-ghost use Rattle.dbn_reader.specs.Resolving.{taken, called, produced};
+ghost use Rattle.dbn_reader.specs.Resolving.{moved, called};
 
 use super::bound::bound_of;
 use super::misfit::Misfit;
@@ -106,10 +106,7 @@ fn guard_formula(alloc: Global, written: WrittenFormula) -> Result<Formula, Misf
     resolved_formula(alloc, &nothing, written)
 }
 
-fn resolved_guard(
-    alloc: Global,
-    written: Option<WrittenFormula>,
-) -> Result<Option<Formula>, Misfit>
+fn resolved_guard(alloc: Global, written: Option<WrittenFormula>) -> Result<Option<Formula>, Misfit>
     ensures { Gives result (if_given (resolved_formula []) written) }
 {
     match written {
@@ -243,18 +240,22 @@ fn inputs_of(alloc: Global, written: WrittenInputs) -> Result<Inputs, AllocError
     Ok(made)
 }
 
-/// What the `in` and `read` clauses take and look at.
-fn taken(
+/// What the `in` and `read` clauses take and look at, and what the `out` and `back` clauses produce.
+fn moved(
     alloc: Global,
     net: &Net,
     ins: WrittenArcs,
     reads: WrittenAtoms,
-) -> Result<(Arcs, Reads), Misfit>
-    ensures { (written : List Clause) → ins ≡ ins_of written → reads ≡ reads_of written → Gives result (taken net.now written) }
+    outs: WrittenArcs,
+    backs: WrittenArcs,
+) -> Result<(Arcs, Reads, Arcs, Arcs), Misfit>
+    ensures { (written : List Clause) → ins ≡ ins_of written → reads ≡ reads_of written → Gives result (moved net.now written outs backs) }
 {
     let ins = each_arc(alloc, net, ins)?;
     let reads = each_read(alloc, net, reads)?;
-    Ok((ins, reads))
+    let outs = each_arc(alloc, net, outs)?;
+    let backs = each_arc(alloc, net, backs)?;
+    Ok((ins, reads, outs, backs))
 }
 
 /// The guard and the call.
@@ -271,18 +272,41 @@ fn called(
     Ok((guard, call))
 }
 
-/// What the `out` and `back` clauses produce.
-fn produced(
-    alloc: Global,
-    net: &Net,
-    outs: WrittenArcs,
-    backs: WrittenArcs,
-) -> Result<(Arcs, Arcs), Misfit>
-    ensures { Gives result (produced net.now outs backs) }
+#[tactic(auto, using(crate::proofs::TransitionLaws::transition_laws))]
+fn transition_of(alloc: Global, net: &Net, written: WrittenTransition) -> Result<Transition, Misfit>
+    ensures { Gives result (transition net.now written) }
 {
-    let outs = each_arc(alloc, net, outs)?;
-    let backs = each_arc(alloc, net, backs)?;
-    Ok((outs, backs))
+    let WrittenTransition {
+        name,
+        inputs,
+        guard,
+        asked,
+        fresh,
+        call,
+        outs,
+        backs,
+    } = written;
+    let bound = bound_of(alloc, net, inputs.as_slice())?;
+    let Inputs {
+        ins,
+        reads,
+        mixture,
+    } = inputs_of(alloc, inputs)?;
+    let (ins, reads, outs, backs) = moved(alloc, net, ins, reads, outs, backs)?;
+    let (guard, call) = called(alloc, net, guard, call)?;
+    Ok(Transition {
+        name,
+        ins,
+        reads,
+        mixture,
+        guard,
+        asked,
+        fresh,
+        call,
+        outs,
+        backs,
+        bound,
+    })
 }
 
 /// The number of the column with this name. A relation has at most 16 columns.
@@ -412,12 +436,7 @@ fn foreign_entry(
     Ok(Entry::Part(decl))
 }
 
-fn always_entry(
-    alloc: Global,
-    net: &Net,
-    name: Name,
-    body: WrittenFormula,
-) -> Result<Entry, Misfit>
+fn always_entry(alloc: Global, net: &Net, name: Name, body: WrittenFormula) -> Result<Entry, Misfit>
     ensures { Gives result (resolved net.now (Written.Always name body)) }
 {
     let body = resolved_formula(alloc, net, body)?;
@@ -458,6 +477,17 @@ fn view_entry(net: &Net, name: Name, query: Name) -> Result<Entry, Misfit>
     Ok(Entry::Part(Decl::Site(Place::View { name, query })))
 }
 
+fn transition_entry(
+    alloc: Global,
+    net: &Net,
+    transition: WrittenTransition,
+) -> Result<Entry, Misfit>
+    ensures { Gives result (resolved net.now (Written.Transition transition)) }
+{
+    let transition = transition_of(alloc, net, transition)?;
+    Ok(Entry::Part(Decl::Trans(transition)))
+}
+
 fn fact_entry(net: &Net, rel: Name, row: Row<Value>) -> Result<Entry, Misfit>
     ensures { Gives result (resolved net.now (Written.Fact rel row)) }
 {
@@ -471,4 +501,51 @@ fn token_entry(net: &Net, place: Name, many: i64, row: Row<Value>) -> Result<Ent
     let place = known(control_number(net, place.as_bytes()))?;
     let many = count(many);
     Ok(Entry::Tokens { place, many, row })
+}
+
+/// What the declaration means.
+fn entry_of(alloc: Global, net: &Net, written: Written) -> Result<Entry, Misfit>
+    ensures { Gives result (resolved net.now written) }
+{
+    match written {
+        Written::Relation { name, fields } => Ok(Entry::Part(Decl::Relation { name, fields })),
+        Written::Key { rel, fields } => key_entry(alloc, net, rel, fields),
+        Written::Foreign {
+            rel,
+            fields,
+            to,
+            to_fields,
+        } => foreign_entry(alloc, net, rel, fields, to, to_fields),
+        Written::Always { name, body } => always_entry(alloc, net, name, body),
+        Written::Query { name, vars, body } => query_entry(alloc, net, name, vars, body),
+        Written::Action {
+            name,
+            params,
+            deletes,
+            adds,
+        } => action_entry(alloc, net, name, params, deletes, adds),
+        Written::Control { name, shape } => {
+            Ok(Entry::Part(Decl::Site(Place::Control { name, shape })))
+        }
+        Written::View { name, query } => view_entry(net, name, query),
+        Written::Transition(transition) => transition_entry(alloc, net, transition),
+        Written::Fact { rel, row } => fact_entry(net, rel, row),
+        Written::Token { place, many, row } => token_entry(net, place, many, row),
+    }
+}
+
+/// What the declaration means, with numbers in the place of names; nothing exactly where a name was not declared before, or a
+/// place is of the other kind. An error is want of memory.
+pub(crate) fn resolved(
+    alloc: Global,
+    net: &Net,
+    written: Written,
+) -> Result<Option<Entry>, AllocError>
+    ensures { IfOk result (λ found. found ≡ resolved net.now written) }
+{
+    match entry_of(alloc, net, written) {
+        Ok(entry) => Ok(Some(entry)),
+        Err(Misfit::Shape) => Ok(None),
+        Err(Misfit::Memory) => Err(AllocError),
+    }
 }
