@@ -21,4 +21,5 @@ pub mod StartLaws
 pub mod TermLaws
 pub mod TransitionLaws
 pub mod UsedLaws
+pub mod WrittenLaws
 pub mod WrittenWeights
