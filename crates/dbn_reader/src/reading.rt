@@ -1,6 +1,6 @@
 //! Reading a net text: one declaration after the other, and then the test of the initial facts.
 
-ghost use Rattle.std.specs.Prelude.{◌≡◌, ◌<◌, ◌≤◌, ◌^◌, ◌++◌, length, IfOk, OnOk};
+ghost use Rattle.std.specs.Prelude.{◌≡◌, ◌<◌, ◌≤◌, ◌^◌, ◌++◌, length, Ok, IfOk, IfErr, OnOk};
 ghost use Rattle.std.specs.List.{zip};
 ghost use Rattle.dbn_sexp.specs.Printing.{nesting, IsWithinDepth};
 ghost use Rattle.dbn_sexp.specs.Reading.{reads as list_reads};
@@ -10,7 +10,7 @@ ghost use Rattle.dbn_net.specs.WellFormed.{Passes};
 ghost use Rattle.dbn_net.specs.Good.{Good};
 ghost use Rattle.dbn_net.specs.Texts.{nothing, more_facts, more_tokens, sentence_lines, with_entry, read_one, read_each, first_broken, finished, reads};
 ghost use Rattle.dbn_reader.specs.Light.{IsLight};
-ghost use Rattle.dbn_reader.specs.Reading.{Gives, Leads, Reaches, Starts, listed, on_line, read_entry, start_of, state_of, IsReached, AreNewTokens, MayStand};
+ghost use Rattle.dbn_reader.specs.Reading.{Fails, Gives, Leads, Reaches, Starts, listed, on_line, read_entry, start_of, state_of, IsReached, AreNewTokens, MayStand};
 
 use super::broken::first_broken;
 use super::declarations::declaration_in;
@@ -254,7 +254,8 @@ fn read_each(alloc: Global, list: &[Sexp]) -> Result<Reading, NetFault>
 ///
 /// What is read of at most 2^31 bytes is light: no transition names more than 2^62 tokens, and no more lie in all places.
 pub fn read_net(alloc: Global, bytes: &[u8]) -> Result<(Net, Snapshot), NetFault>
-    ensures exact { Starts result (reads bytes.now) }
+    ensures read { IfOk result (λ r. reads bytes.now ≡ Ok (start_of r.0 r.1)) }
+    ensures fault { IfErr result (λ why. Fails why (reads bytes.now)) }
     ensures fired { IfOk result (λ r. r.1.fired ≡ 0) }
     ensures good { IfOk result (λ r. Good r.0 r.1) }
     ensures light { length bytes.now ≤ 2 ^ 31 → IfOk result (λ r. IsLight r.0 r.1.marking) }
