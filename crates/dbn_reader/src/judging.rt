@@ -1,6 +1,6 @@
 //! All tests of a declaration, in their order.
 
-ghost use Rattle.std.specs.Prelude.{◌≡◌, length, IfOk};
+ghost use Rattle.std.specs.Prelude.{◌≡◌, length, Ok, IfOk};
 ghost use Rattle.dbn_net.specs.Tables.{relations, places};
 ghost use Rattle.dbn_net.specs.Naming.{resolved};
 ghost use Rattle.dbn_net.specs.Judging.{judged_entry, judged_resolved, judged};
@@ -85,18 +85,27 @@ fn check_resolved(alloc: Global, net: &Net, written: Written) -> Result<Entry, R
 {
     match resolved(alloc, net, written)? {
         None => Err(Refused::Kind(NetKind::Unknown)),
-        Some(entry) => check_entry(alloc, net, entry),
+        Some(entry) => passed(alloc, net, entry),
     }
 }
 
 /// The declaration, or the kind of its first fault among those that are looked for when its names are known.
-fn check_entry(alloc: Global, net: &Net, entry: Entry) -> Result<Entry, Refused>
+fn passed(alloc: Global, net: &Net, entry: Entry) -> Result<Entry, Refused>
     ensures { Judges result (judged_entry net.now entry) }
 {
-    match judged_entry(alloc, net, &entry) {
-        Err(_) => Err(Refused::Memory),
-        Ok(Some(kind)) => Err(Refused::Kind(kind)),
-        Ok(None) => Ok(entry),
+    match check_entry(alloc, net, &entry) {
+        Ok(()) => Ok(entry),
+        Err(refused) => Err(refused),
+    }
+}
+
+/// Tests the declaration with numbers for its names.
+fn check_entry(alloc: Global, net: &Net, entry: &Entry) -> Result<(), Refused>
+    ensures { Leaves result (Ok entry.now) (judged_entry net.now entry.now) }
+{
+    match judged_entry(alloc, net, entry)? {
+        Some(kind) => Err(Refused::Kind(kind)),
+        None => Ok(()),
     }
 }
 
