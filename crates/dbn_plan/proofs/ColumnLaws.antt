@@ -1,0 +1,127 @@
+-- Loops over labels and terms.
+use Rattle.std.proofs.Common.{◌≡◌, ◌<◌, ◌+◌, ◌≤◌, ℕ, zero, suc, ◌⊎◌, inl, inr, ⊎_elim, Bool, true, false, cond, List, [], ◌∷◌, ◌++◌, take, drop, refl, ap, sym, ◌∙◌, subst, Option, Some, None, length, get_or, arith}
+use Rattle.std.specs.Prelude.{slice_get}
+use Rattle.std.specs.Option.{option_map}
+use Rattle.std.specs.List.{filter}
+use Rattle.std.proofs.lemmas.Bool.{true≢false}
+use Rattle.std.proofs.lemmas.List.{append_assoc, drop_all, drop_more, take_more}
+use Rattle.dbn_value.specs.Members.{In}
+use Rattle.dbn_value.specs.declared.value.Value.{Value}
+use Rattle.dbn_value.specs.declared.term.Var.{Var}
+use Rattle.dbn_value.specs.declared.term.Term.{Term}
+use Rattle.dbn_value.specs.declared.term.Term.TheVariants as term
+use Rattle.dbn_formula.specs.Variables.{TypedVars, var_eq, is_in}
+use Rattle.dbn_nodes.specs.declared.node.ColTest.{ColTest}
+use Rattle.dbn_plan.specs.Meaning.{vars_of}
+use Rattle.dbn_plan.specs.Columns.{position, test_of, tests_after, pair_of, pairs_from, with_vars, Labelled}
+
+-- ---- the first column with a label
+
+-- not among those so far
+pub not_yet : (labels : List Term) (i : ℕ) (label wanted : Term) → i < length labels → label ≡ get_or labels i label → (label ≡ wanted → ⊥) → In wanted (drop i labels) → In wanted (drop (i + 1) labels)
+not_yet labels i label wanted h is other at =
+    ⊎_elim (λ here. absurd (other (sym here))) (λ there. there) (subst (In wanted) (drop_more labels i label h ∙ ap (λ a. a ∷ drop (i + 1) labels) (sym is)) at)
+
+pub found_at : {A : Type 0} (xs : List A) (i : ℕ) (x y : A) → i < length xs → x ≡ get_or xs i x → x ≡ y → slice_get xs i ≡ Some y
+found_at [] i x y h is same = absurd (omega (arith, h))
+found_at (z ∷ xs) zero x y h is same = ap Some (sym is ∙ same)
+found_at (z ∷ xs) (suc i) x y h is same = found_at xs i x y (omega (arith, h)) is same
+
+pub none_left : (labels : List Term) (i : ℕ) (wanted : Term) → length labels ≤ i → In wanted (drop i labels) → ⊥
+none_left labels i wanted h at = subst (In wanted) (drop_all i labels h) at
+
+-- ---- the first column of a variable
+
+abbrev pub shifted : ℕ → Option ℕ → Option ℕ
+shifted n o = option_map (λ k. n + k) o
+
+shift_twice : (n : ℕ) (o : Option ℕ) → shifted n (option_map (λ k. suc k) o) ≡ shifted (n + 1) o
+shift_twice n None = refl
+shift_twice n (Some k) = let e : n + suc k ≡ (n + 1) + k = omega arith in ap Some e
+
+shift_none : (o : Option ℕ) → shifted 0 o ≡ o
+shift_none None = refl
+shift_none (Some k) = let e : 0 + k ≡ k = omega arith in ap Some e
+
+pub position_start : (labels : List Term) (x : Var) → position labels x ≡ shifted 0 (position (drop 0 labels) x)
+position_start labels x = sym (shift_none (position labels x))
+
+front_is : {A : Type 0} (xs : List A) (i : ℕ) (x : A) → i < length xs → x ≡ get_or xs i x → drop i xs ≡ x ∷ drop (i + 1) xs
+front_is xs i x h is = drop_more xs i x h ∙ ap (λ a. a ∷ drop (i + 1) xs) (sym is)
+
+pub position_constant : (labels : List Term) (x : Var) (i : ℕ) (label : Term) (v : Value) → i < length labels → label ≡ get_or labels i label → label ≡ term.Const v
+    → position labels x ≡ shifted i (position (drop i labels) x) → position labels x ≡ shifted (i + 1) (position (drop (i + 1) labels) x)
+position_constant labels x i label v h is const e =
+    e ∙ ap (λ ls. shifted i (position ls x)) (front_is labels i label h is ∙ ap (λ a. a ∷ drop (i + 1) labels) const) ∙ shift_twice i (position (drop (i + 1) labels) x)
+
+pub position_other : (labels : List Term) (x y : Var) (i : ℕ) (label : Term) → i < length labels → label ≡ get_or labels i label → label ≡ term.Var y → var_eq x y ≡ false
+    → position labels x ≡ shifted i (position (drop i labels) x) → position labels x ≡ shifted (i + 1) (position (drop (i + 1) labels) x)
+position_other labels x y i label h is var other e =
+    e ∙ ap (λ ls. shifted i (position ls x)) (front_is labels i label h is ∙ ap (λ a. a ∷ drop (i + 1) labels) var)
+    ∙ ap (λ b. shifted i (cond b (Some 0) (option_map (λ k. suc k) (position (drop (i + 1) labels) x)))) other ∙ shift_twice i (position (drop (i + 1) labels) x)
+
+pub position_here : (labels : List Term) (x y : Var) (i : ℕ) (label : Term) → i < length labels → label ≡ get_or labels i label → label ≡ term.Var y → var_eq x y ≡ true
+    → position labels x ≡ shifted i (position (drop i labels) x) → position labels x ≡ Some i
+position_here labels x y i label h is var same e =
+    e ∙ ap (λ ls. shifted i (position ls x)) (front_is labels i label h is ∙ ap (λ a. a ∷ drop (i + 1) labels) var)
+    ∙ ap (λ b. shifted i (cond b (Some 0) (option_map (λ k. suc k) (position (drop (i + 1) labels) x)))) same ∙ ap Some (let z : i + 0 ≡ i = omega arith in z)
+
+pub position_end : (labels : List Term) (x : Var) (i : ℕ) → length labels ≤ i → position labels x ≡ shifted i (position (drop i labels) x) → position labels x ≡ None
+position_end labels x i h e = e ∙ ap (λ ls. shifted i (position ls x)) (drop_all i labels h)
+
+-- ---- the tests of all terms, and the pairs
+
+module _ {C : Type 0} (K : Value → Option C) where
+  first_test : (before : List Term) (a : Term) (terms : List Term) → tests_after K before (a ∷ terms) ≡ test_of K before a ++ tests_after K (before ++ a ∷ []) terms
+  first_test before a terms = refl
+
+  pub tests_step : (terms : List Term) (i : ℕ) (a : Term) (tests more : List (ColTest C)) → i < length terms → a ≡ get_or terms i a → tests ++ tests_after K (take i terms) (drop i terms) ≡ tests_after K [] terms
+      → more ≡ tests ++ test_of K (take i terms) a → more ++ tests_after K (take (i + 1) terms) (drop (i + 1) terms) ≡ tests_after K [] terms
+  tests_step terms i a tests more h is so e =
+      ap (λ ts. ts ++ tests_after K (take (i + 1) terms) (drop (i + 1) terms)) e
+      ∙ append_assoc tests (test_of K (take i terms) a) (tests_after K (take (i + 1) terms) (drop (i + 1) terms))
+      ∙ ap (λ before. tests ++ (test_of K (take i terms) a ++ tests_after K before (drop (i + 1) terms))) (take_more terms i a h ∙ ap (λ b. take i terms ++ b ∷ []) (sym is))
+      ∙ ap (λ ts. tests ++ ts) (sym (first_test (take i terms) a (drop (i + 1) terms)) ∙ ap (tests_after K (take i terms)) (sym (front_is terms i a h is)))
+      ∙ so
+
+  pub tests_end : (terms : List Term) (i : ℕ) (tests : List (ColTest C)) → length terms ≤ i → tests ++ tests_after K (take i terms) (drop i terms) ≡ tests_after K [] terms → tests ≡ tests_after K [] terms
+  tests_end terms i tests h so = sym (append_none tests) ∙ ap (λ rest. tests ++ tests_after K (take i terms) rest) (sym (drop_all i terms h)) ∙ so
+    where
+      append_none : (xs : List (ColTest C)) → xs ++ [] ≡ xs
+      append_none [] = refl
+      append_none (x ∷ xs) = ap (λ ys. x ∷ ys) (append_none xs)
+
+first_pair : (labels : List Term) (i : ℕ) (a : Term) (terms : List Term) → pairs_from labels i (a ∷ terms) ≡ pair_of labels i a ++ pairs_from labels (suc i) terms
+first_pair labels i a terms = refl
+
+pub pairs_step : (labels terms : List Term) (i : ℕ) (a : Term) (on more : List (ℕ × ℕ)) → i < length terms → a ≡ get_or terms i a → on ++ pairs_from labels i (drop i terms) ≡ pairs_from labels 0 terms
+    → more ≡ on ++ pair_of labels i a → more ++ pairs_from labels (i + 1) (drop (i + 1) terms) ≡ pairs_from labels 0 terms
+pairs_step labels terms i a on more h is so e =
+    let next : i + 1 ≡ suc i = omega arith in
+    ap (λ ps. ps ++ pairs_from labels (i + 1) (drop (i + 1) terms)) e
+    ∙ append_assoc on (pair_of labels i a) (pairs_from labels (i + 1) (drop (i + 1) terms))
+    ∙ ap (λ k. on ++ (pair_of labels i a ++ pairs_from labels k (drop (i + 1) terms))) next
+    ∙ ap (λ ps. on ++ ps) (sym (first_pair labels i a (drop (i + 1) terms)) ∙ ap (pairs_from labels i) (sym (front_is terms i a h is)))
+    ∙ so
+
+pub pairs_end : (labels terms : List Term) (i : ℕ) (on : List (ℕ × ℕ)) → length terms ≤ i → on ++ pairs_from labels i (drop i terms) ≡ pairs_from labels 0 terms → on ≡ pairs_from labels 0 terms
+pairs_end labels terms i on h so = sym (append_none on) ∙ ap (λ rest. on ++ pairs_from labels i rest) (sym (drop_all i terms h)) ∙ so
+  where
+    append_none : (xs : List (ℕ × ℕ)) → xs ++ [] ≡ xs
+    append_none [] = refl
+    append_none (x ∷ xs) = ap (λ ys. x ∷ ys) (append_none xs)
+
+-- ---- the columns of all labels
+
+pub labelled_more : (labels : List Term) (cols : List ℕ) (wanted : List Term) (c : ℕ) (a : Term) → Labelled labels cols wanted → slice_get labels c ≡ Some a → Labelled labels (cols ++ c ∷ []) (wanted ++ a ∷ [])
+labelled_more labels [] [] c a so e = (e, tt)
+labelled_more labels [] (w ∷ wanted) c a so e = absurd so
+labelled_more labels (k ∷ cols) [] c a so e = absurd so
+labelled_more labels (k ∷ cols) (w ∷ wanted) c a so e = (so.0, labelled_more labels cols wanted c a so.1 e)
+
+-- ---- the labels of all variables
+
+pub with_vars_step : (labels wanted more : List Term) (vars : List Var) (i : ℕ) (x : Var) → i < length vars → x ≡ get_or vars i x → with_vars wanted (drop i vars) ≡ with_vars labels vars → more ≡ with_vars wanted (x ∷ [])
+    → with_vars more (drop (i + 1) vars) ≡ with_vars labels vars
+with_vars_step labels wanted more vars i x h is so e =
+    ap (λ ls. with_vars ls (drop (i + 1) vars)) e ∙ ap (with_vars wanted) (sym (front_is vars i x h is)) ∙ so

@@ -1,0 +1,15 @@
+pub mod AtomLaws
+pub mod AtomMade
+pub mod ColumnLaws
+pub mod ComparisonMade
+pub mod FormsReady
+pub mod FormulaLaws
+pub mod MadeLaws
+pub mod NodeLaws
+pub mod Places
+pub mod RoomLaws
+pub mod Rows
+pub mod StepLaws
+pub mod StepsMade
+pub mod TestLaws
+pub mod TopLaws
