@@ -129,6 +129,9 @@ pairs_all labels before (term.Var y ∷ terms) x here at =
 pub shared_pairs : (labels terms : List Term) → Pairs (pairs_from labels 0 terms) labels terms
 shared_pairs labels terms = record { each = λ pair at. pairs_there labels [] terms pair at; all = λ x here there. pairs_all labels [] terms x here there }
 
+pub pairs_shared : (labels terms ls ts : List Term) (on : List (ℕ × ℕ)) → ls ≡ labels → ts ≡ terms → on ≡ pairs_from ls 0 ts → Pairs on labels terms
+pairs_shared labels terms ls ts on e f is = subst (λ ps. Pairs ps labels terms) (sym (is ∙ ap (λ xs. pairs_from xs 0 ts) e ∙ ap (pairs_from labels 0) f)) (shared_pairs labels terms)
+
 row_length : (dom : Domain) (row : List Value) (shape : List ColType) → RowIn dom row shape → length row ≡ length shape
 row_length dom [] [] within = refl
 row_length dom [] (type ∷ shape) within = absurd within

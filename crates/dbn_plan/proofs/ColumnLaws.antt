@@ -1,6 +1,13 @@
 -- Loops over labels and terms.
 use Rattle.std.proofs.Common.{◌≡◌, ◌<◌, ◌+◌, ◌≤◌, ℕ, zero, suc, ◌⊎◌, inl, inr, ⊎_elim, Bool, true, false, cond, List, [], ◌∷◌, ◌++◌, take, drop, refl, ap, sym, ◌∙◌, subst, Option, Some, None, length, get_or, arith}
-use Rattle.std.specs.Prelude.{slice_get}
+use Rattle.std.specs.Prelude.{slice_get, ◌↔◌, IsTrue}
+use Rattle.std.specs.Ordering.{is_eq}
+use Rattle.std.specs.Cmp.{Equal-is, tied_itself}
+use Rattle.dbn_value.specs.Order.{value_cmp, value_total, exact_values}
+use Rattle.dbn_formula.proofs.VariableLaws.{var_itself, var_same, is_of_in}
+use Rattle.dbn_formula.specs.Free.{variable_of}
+use Rattle.dbn_value.proofs.MemberLaws.{flat_in, in_at}
+use Rattle.dbn_plan.proofs.AtomLaws.{position_is, position_none}
 use Rattle.std.specs.Option.{option_map}
 use Rattle.std.specs.List.{filter}
 use Rattle.std.proofs.lemmas.Bool.{true≢false}
@@ -13,7 +20,21 @@ use Rattle.dbn_value.specs.declared.term.Term.TheVariants as term
 use Rattle.dbn_formula.specs.Variables.{TypedVars, var_eq, is_in}
 use Rattle.dbn_nodes.specs.declared.node.ColTest.{ColTest}
 use Rattle.dbn_plan.specs.Meaning.{vars_of}
-use Rattle.dbn_plan.specs.Columns.{position, test_of, tests_after, pair_of, pairs_from, with_vars, Labelled}
+use Rattle.dbn_plan.specs.Columns.{term_eq, position, test_of, tests_after, pair_of, pairs_from, with_vars, Labelled}
+
+-- ---- terms
+
+term_eq_itself : (a : Term) → term_eq a a ≡ true
+term_eq_itself (term.Var x) = var_itself x
+term_eq_itself (term.Const v) = ap is_eq (tied_itself value_total v)
+
+term_eq_same : (a b : Term) → term_eq a b ≡ true → a ≡ b
+term_eq_same (term.Var x) (term.Var y) e = ap term.Var (var_same x y e)
+term_eq_same (term.Const v) (term.Const w) e = ap term.Const (exact_values v w ((Equal-is (value_cmp v w)).0 e))
+term_eq_same a b e = cc
+
+pub term_eq_is : (a b : Term) → IsTrue (term_eq a b) ↔ (a ≡ b)
+term_eq_is a b = (term_eq_same a b, (λ e. subst (λ c. term_eq a c ≡ true) e (term_eq_itself a)))
 
 -- ---- the first column with a label
 
@@ -125,3 +146,15 @@ pub with_vars_step : (labels wanted more : List Term) (vars : List Var) (i : ℕ
     → with_vars more (drop (i + 1) vars) ≡ with_vars labels vars
 with_vars_step labels wanted more vars i x h is so e =
     ap (λ ls. with_vars ls (drop (i + 1) vars)) e ∙ ap (with_vars wanted) (sym (front_is vars i x h is)) ∙ so
+
+-- one variable: it has a label already, or gets one
+pub known_stays : (labels ls : List Term) (x : Var) (i : ℕ) → ls ≡ labels → Some i ≡ position ls x → labels ≡ with_vars labels (x ∷ [])
+known_stays labels ls x i e at =
+    let there : slice_get labels i ≡ Some (term.Var x) = position_is labels x i (ap (λ zs. position zs x) (sym e) ∙ sym at) in
+    let known : is_in x (vars_of labels) ≡ true = is_of_in x (vars_of labels) (flat_in variable_of x (term.Var x) labels (in_at labels i (term.Var x) there) (inl refl)) in
+    sym (ap (λ b. cond b labels (labels ++ term.Var x ∷ [])) known)
+
+pub new_comes : (labels ls : List Term) (x : Var) → ls ≡ labels → ◌≡◌ {A = Option ℕ} None (position ls x) → labels ++ term.Var x ∷ [] ≡ with_vars labels (x ∷ [])
+new_comes labels ls x e at =
+    let unknown : is_in x (vars_of labels) ≡ false = position_none labels x (ap (λ zs. position zs x) (sym e) ∙ sym at) in
+    sym (ap (λ b. cond b labels (labels ++ term.Var x ∷ [])) unknown)

@@ -131,6 +131,9 @@ column_count labels [] (w ∷ wanted) at = absurd at
 column_count labels (c ∷ cols) [] at = absurd at
 column_count labels (c ∷ cols) (w ∷ wanted) at = ap suc (column_count labels cols wanted at.1)
 
+pub labelled_as : (labels wanted ls ws : List Term) (cols : List ℕ) → ls ≡ labels → ws ≡ wanted → Labelled ls cols ws → Labelled labels cols wanted
+labelled_as labels wanted ls ws cols e f at = subst (Labelled labels cols) f (subst (λ xs. Labelled xs cols ws) e at)
+
 pub project_fits : {C : Type 0} (s : State C) (i : ℕ) (labels : List Term) (cols : List ℕ) (wanted : List Term) → Placed s i labels → Labelled labels cols wanted → Fits s (node.Project i cols)
 project_fits s i labels cols wanted placed at = record {
   left = placed.there;

@@ -1,5 +1,5 @@
 -- Which column has which label, and what an atom asks of the columns of its relation.
-use Rattle.std.specs.Prelude.{ℕ, zero, suc, if◌then◌else◌, List, [], ◌∷◌, ◌++◌, length, Option, Some, None, ◌≡◌, slice_get}
+use Rattle.std.specs.Prelude.{Bool, false, ℕ, zero, suc, if◌then◌else◌, List, [], ◌∷◌, ◌++◌, length, Option, Some, None, ◌≡◌, slice_get}
 use Rattle.std.specs.Option.{option_map}
 use Rattle.dbn_value.specs.declared.value.Value.{Value}
 use Rattle.dbn_value.specs.declared.term.Var.{Var}
@@ -7,10 +7,19 @@ use Rattle.dbn_value.specs.declared.term.Term.{Term}
 use Rattle.dbn_value.specs.declared.term.Term.TheVariants as term
 use Rattle.dbn_value.specs.declared.term.Cmp.TheVariants as cmp
 use Rattle.dbn_value.specs.Members.{In}
+use Rattle.std.specs.Ordering.{is_eq}
+use Rattle.dbn_value.specs.Order.{value_cmp}
 use Rattle.dbn_formula.specs.Variables.{var_eq, is_in}
 use Rattle.dbn_plan.specs.Meaning.{vars_of}
 use Rattle.dbn_nodes.specs.declared.node.ColTest.{ColTest}
 use Rattle.dbn_nodes.specs.declared.node.ColTest.TheVariants as test
+
+-- the two are the same term
+abbrev pub term_eq : Term → Term → Bool
+term_eq (term.Var x) (term.Var y) = var_eq x y
+term_eq (term.Const v) (term.Const w) = is_eq (value_cmp v w)
+term_eq (term.Var x) (term.Const w) = false
+term_eq (term.Const v) (term.Var y) = false
 
 -- the first column whose label is the variable
 abbrev pub position : List Term → Var → Option ℕ

@@ -1,5 +1,11 @@
-use dbn_value::Value;
+ghost use Rattle.std.specs.Prelude.{◌≡◌, ◌<◌, IfOk, length};
+ghost use Rattle.dbn_plan.specs.Making.{IsOpen, AreSources, ScanMade};
+
+use dbn_network::Network;
+use dbn_nodes::Node;
+use dbn_value::{Cell, Value};
 use sqlite_items::Items;
+use std::alloc::{AllocError, Global};
 use std::collections::BTreeMap;
 
 /// What stands before the first node of a formula.
@@ -11,4 +17,23 @@ pub(crate) struct Sources {
     pub(crate) scans: BTreeMap<usize, usize>,
     /// The values that the formula writes; each has a cell.
     pub(crate) consts: Items<Value>,
+}
+
+/// A node that scans the relation: the one that is there, or a new one.
+pub(crate) fn scan_of<C: Cell>(
+    alloc: Global,
+    rel: usize,
+    sources: &Sources,
+    network: &mut Network<C>,
+) -> Result<usize, AllocError>
+    requires open { IsOpen network.old }
+    requires sources { AreSources network.old sources.now }
+    requires range { rel < length network.old.rels }
+    ensures { IfOk result (λ made. ScanMade network.old network.new rel made) }
+{
+    if let Some(scan) = sources.scans.get(&rel) {
+        return Ok(*scan);
+    }
+    let made = network.add(alloc, Node::Scan { feed: rel })?;
+    Ok(made)
 }
