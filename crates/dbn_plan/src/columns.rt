@@ -129,11 +129,7 @@ fn push_pair(on: &mut Pairs, labels: &[Term], i: usize, term: &Term) -> Result<(
 }
 
 /// The pairs of columns of the labels and of the terms that have the same variable.
-pub(crate) fn pairs_of(
-    alloc: Global,
-    labels: &[Term],
-    terms: &[Term],
-) -> Result<Pairs, AllocError>
+pub(crate) fn pairs_of(alloc: Global, labels: &[Term], terms: &[Term]) -> Result<Pairs, AllocError>
     ensures { IfOk result (λ on. on ≡ pairs_from labels.now 0 terms.now) }
 {
     let mut on = Items::new(alloc);

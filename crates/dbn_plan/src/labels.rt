@@ -37,11 +37,7 @@ pub(crate) fn labels_behind(alloc: Global, f: &Formula, labels: &Terms) -> Resul
 }
 
 /// The variables that the quantifier doesn't hide.
-fn shown_vars(
-    alloc: Global,
-    hidden: &[(Var, ColType)],
-    vars: &[Var],
-) -> Result<Vars, AllocError>
+fn shown_vars(alloc: Global, hidden: &[(Var, ColType)], vars: &[Var]) -> Result<Vars, AllocError>
     ensures { IfOk result (λ some. some ≡ unhidden hidden.now vars.now) }
 {
     let mut some = Items::new(alloc);
@@ -54,11 +50,7 @@ fn shown_vars(
 }
 
 /// The labels, and behind them those of the variables that they don't have.
-fn with_vars(
-    alloc: Global,
-    labels: &Terms,
-    vars: &[Var],
-) -> Result<Terms, AllocError>
+fn with_vars(alloc: Global, labels: &Terms, vars: &[Var]) -> Result<Terms, AllocError>
     ensures { IfOk result (λ wanted. wanted ≡ with_vars labels.now vars.now) }
 {
     let mut wanted = labels.copy_in(alloc)?;
