@@ -143,7 +143,6 @@ fn the_shortest_changes(rt: HostRuntime) -> Result<(), Fail> {
     let (five, six) = (one_fact(alloc, 5)?, one_fact(alloc, 6)?);
     assert_eq!(rt; shortest(alloc, &five, &five, &instance)?.len(), 0);
     assert_eq!(rt; shortest(alloc, &five, &six, &instance)?.len(), 2);
-    assert!(rt; five.as_slice().iter().all(|f| f.rel == 0));
     Ok(())
 }
 
