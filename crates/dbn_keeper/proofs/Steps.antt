@@ -17,7 +17,7 @@ use Rattle.dbn_keeper.specs.declared.base.Step.{Step}
 use Rattle.dbn_keeper.specs.declared.opening.Form.{Form}
 use Rattle.dbn_keeper.specs.declared.opening.Opening.TheVariants.{Marked}
 use Rattle.dbn_keeper.specs.Keeping.{NoneFalls, SameFiles, BringsOnly, next_step, step_at}
-use Rattle.dbn_keeper.specs.TwoFiles.{pair_of, gives_way, IsChosen, Cursor, both_held, pair_list, chosen_in, other_in, IsSteady, two_state, IsTwo}
+use Rattle.dbn_keeper.specs.TwoFiles.{pair_of, gives_way, IsChosen, Cursor, both_held, pair_list, pair_bytes, chosen_in, other_in, IsSteady, two_state, IsTwo}
 use Rattle.dbn_keeper.specs.Choosing.{beside, store_here, chosen_same}
 use Rattle.dbn_keeper.specs.Appending.{told_both, append_brings, at_end_here, with_it, chosen_after, appended_front, appended_held, store_of}
 
@@ -33,6 +33,7 @@ none_falls false c o c' o' first second (suc (suc i)) = omega arith
 pub looked : (k k' : Cursor) (c c' o : DiskState) → k'.swapped ≡ k.swapped → k'.form ≡ k.form → k'.generation ≡ k.generation → c'.content ≡ c.content → (IsTrue c.honest → Still c c') → SameFiles (two_state k c o) (two_state k' c' o)
 looked k k' c c' o swapped form generation same still = record {
   held = ap (λ (s : Bool). both_held s c'.content o.content) swapped ∙ ap (λ (l : Option (List ℕ)). both_held k.swapped l o.content) same;
+  bytes = ap (λ (s : Bool). pair_bytes s c'.content o.content) swapped ∙ ap (λ (l : Option (List ℕ)). pair_bytes k.swapped l o.content) same;
   moment = λ honest. ap (λ (s : Bool). pair_list s c'.clock o.clock) swapped ∙ ap (λ (n : ℕ). pair_list k.swapped n o.clock) (still (and_parts c.honest o.honest honest).0).clock;
   image = λ honest f image. subst (λ (s : Bool). ((x : List ℕ) × (y : List ℕ) × c'.image x × o.image y × (pair_of s x y ≡ f)) → ((x : List ℕ) × (y : List ℕ) × c.image x × o.image y × (pair_of k.swapped x y ≡ f))) (sym swapped)
       (λ i. (i.0, i.1, (still (and_parts c.honest o.honest honest).0).image i.0 i.2, i.3, i.4)) image;

@@ -27,6 +27,8 @@ pub record KeeperState : Type 1 where
   pub at_end : Bool
   -- what it holds, where that is told
   pub held : Option Folder
+  -- the bytes of each of its files, where they are told
+  pub bytes : List (Option (List ℕ))
   pub honest : Bool
   -- a crash now may leave files that stand for this
   pub image : Folder → Type 0
@@ -109,9 +111,10 @@ Follows old new End = Stays old new × (new.at_end ≡ true)
 Follows old new (Body body place) = Steps old new (length body) × (place ≡ old.place) × (new.at_end ≡ false)
 Follows old new (Damaged place) = Stays old new × (place ≡ old.place) × (new.at_end ≡ false)
 
--- what is held and all images are as before
+-- what is held, the bytes of each file and all images are as before
 pub record SameFiles (old new : KeeperState) : Type 0 where
   pub held : new.held ≡ old.held
+  pub bytes : new.bytes ≡ old.bytes
   pub moment : IsTrue old.honest → new.moment ≡ old.moment
   pub image : IsTrue old.honest → (f : Folder) → new.image f → old.image f
   pub since : IsTrue old.honest → (t : List ℕ) (f : Folder) → new.since t f → old.since t f

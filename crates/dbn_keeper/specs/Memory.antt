@@ -23,6 +23,7 @@ mem_state base generation bodies live = record {
   place = 33 + length base.text + space bodies;
   at_end = true;
   held = Some (Holds (mem_store base generation bodies));
+  bytes = [];
   honest = true;
   image = λ f. f ≡ Holds (mem_store base generation bodies);
   since = λ t f. f ≡ Holds (mem_store base generation bodies);

@@ -47,6 +47,11 @@ abbrev pub pair_list : Bool → ℕ → ℕ → List ℕ
 pair_list true chosen other = other ∷ chosen ∷ []
 pair_list false chosen other = chosen ∷ other ∷ []
 
+-- the bytes of the first file and of the second one
+abbrev pub pair_bytes : Bool → Option (List ℕ) → Option (List ℕ) → List (Option (List ℕ))
+pair_bytes true chosen other = other ∷ chosen ∷ []
+pair_bytes false chosen other = chosen ∷ other ∷ []
+
 abbrev pub chosen_in : Bool → List ℕ → ℕ
 chosen_in swapped list = get_or list (cond swapped 1 0) 0
 
@@ -77,6 +82,7 @@ two_state k chosen other = record {
   place = k.place;
   at_end = k.at_end;
   held = both_held k.swapped chosen.content other.content;
+  bytes = pair_bytes k.swapped chosen.content other.content;
   honest = chosen.honest && other.honest;
   image = λ f. ((x : List ℕ) × (y : List ℕ) × chosen.image x × other.image y × (pair_of k.swapped x y ≡ f));
   since = λ t f. ((x : List ℕ) × (y : List ℕ) × chosen.since (chosen_in k.swapped t) x × other.since (other_in k.swapped t) y × (pair_of k.swapped x y ≡ f));

@@ -29,6 +29,7 @@ same_files_on old mid new same first second =
     let still : IsTrue old.honest → IsTrue mid.honest = λ honest. subst IsTrue (sym same) honest in
     record {
       held = second.held ∙ first.held;
+      bytes = second.bytes ∙ first.bytes;
       moment = λ honest. second.moment (still honest) ∙ first.moment honest;
       image = λ honest f image. first.image honest f (second.image (still honest) f image);
       since = λ honest t f since. first.since honest t f (second.since (still honest) t f since);
