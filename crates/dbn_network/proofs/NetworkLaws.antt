@@ -1,5 +1,5 @@
 -- What the calls of a network say, by its fields.
-use Rattle.std.proofs.Common.{◌≡◌, ◌<◌, ◌≤◌, ◌+◌, ℕ, zero, suc, ◌⊎◌, inl, inr, ⊎_elim, Bool, true, false, List, [], ◌∷◌, ◌++◌, refl, ap, sym, ◌∙◌, subst, length, get_or, map, arith}
+use Rattle.std.proofs.Common.{◌≡◌, ◌<◌, ◌≤◌, ◌+◌, ◌*◌, max, ℕ, zero, suc, ◌⊎◌, inl, inr, ⊎_elim, Bool, true, false, List, [], ◌∷◌, ◌++◌, refl, ap, sym, ◌∙◌, subst, length, get_or, map, arith}
 use Rattle.std.specs.Prelude.{slice_set, IsTrue}
 use Rattle.std.specs.declared.cmp.Ordering.{Ordering}
 use Rattle.std.specs.Cmp.{IsTotalOrder}
@@ -21,11 +21,13 @@ use Rattle.dbn_network.specs.declared.input.Input.TheVariants as input
 use Rattle.dbn_network.specs.Inputs.{left_in, right_in}
 use Rattle.dbn_network.specs.Values.{rows_at, values, val}
 use Rattle.dbn_network.specs.States.{State, width_at, feed_widths, widths, IsThere, FitsAt, Fits, with_node, with_feeds, change_at}
-use Rattle.dbn_network.specs.Passes.{Alike, Passed, StandsAt}
+use Rattle.dbn_network.specs.Loads.{all_loads, loads_of, bound}
+use Rattle.dbn_network.specs.Passes.{Alike, Costs, Passed, StandsAt}
 use Rattle.dbn_network.specs.Holding.{nodes_of, held_rows, feeds_of, AreEarlier, Marked, IsNetwork}
 use Rattle.dbn_network.proofs.PassLaws.{alike_nodes}
 use Rattle.dbn_network.proofs.FeedLaws.{Table, after, feed_sorted, fits_leads, Noted, noted}
-use Rattle.dbn_network.proofs.HoldLaws.{count_nodes, node_at, after_sorted, network_after}
+use Rattle.dbn_network.proofs.HoldLaws.{count_nodes, node_at, before, after_sorted, network_after}
+use Rattle.dbn_network.proofs.CostLaws.{count_loads, within_bound}
 use Rattle.dbn_network.proofs.AddLaws.{earlier_of, fits_there, nodes_after, network_more}
 
 module _ {C : Type 0} where
@@ -92,6 +94,20 @@ module _ {C : Type 0} {R : C → C → Ordering} (o : IsTotalOrder R) (exact : I
         ∙ ap (meant true rels shapes (nodes_of states)) (feed_noted table plain).feeds
         ∙ ap (λ b. meant b rels shapes (nodes_of states) (changed R (feeds_of R tables) (change_at feed e))) (sym (ap (λ (s : State C). s.live) view ∙ is_live))
         ∙ ap (λ (s : State C). with_feeds s (changed R s.feeds (change_at feed e))) view
+
+    -- the step in the feed's table and those of the pass
+    pub applied_cost : (first middle last : ℕ) → middle ≡ first + 1 → Costs R states feed e middle last → last ≤ first + max 1 (bound R old.nodes feed old.feeds (changed R old.feeds (change_at feed e)))
+    applied_cost first middle last one costs =
+        let next : List (List (List C)) = changed R (feeds_of R tables) (change_at feed e) in
+        let loads : List ℕ = loads_of R feed (values R (feeds_of R tables) (nodes_of states)) (values R next (nodes_of states)) (nodes_of states) in
+        subst (λ (s : State C). last ≤ first + max 1 (bound R s.nodes feed s.feeds (changed R s.feeds (change_at feed e)))) view
+        (summed first middle last (all_loads (nodes_of states) loads) (max 1 (8 * (length (nodes_of states) + all_loads (nodes_of states) loads))) one
+            (costs (feed_widths shapes) (widths (feed_widths shapes) (nodes_of states)) (feeds_of R tables) next (values R (feeds_of R tables) (nodes_of states)) (values R next (nodes_of states))
+        (before o exact shapes states tables network_is feed e (feed_there feed range) wide_is fits_is))
+        (within_bound (nodes_of states) loads (count_loads R feed (values R (feeds_of R tables) (nodes_of states)) (values R next (nodes_of states)) (nodes_of states))))
+      where
+        summed : (first middle last loads most : ℕ) → middle ≡ first + 1 → last ≤ middle + 8 * loads → 1 + 8 * loads ≤ most → last ≤ first + most
+        summed first middle last loads most x y z = omega arith
 
   module _ (n : Node C) (fits : Fits old n) where
     pub fits_now : FitsAt (feed_widths shapes) (widths (feed_widths shapes) (nodes_of states)) (length states) n

@@ -1,5 +1,5 @@
 -- The pass of one event over all nodes, node by node.
-use Rattle.std.proofs.Common.{◌≡◌, ◌≢◌, ◌<◌, ◌≤◌, ◌+◌, ◌==◌, ℕ, zero, suc, ◌⊎◌, inl, inr, ⊎_elim, Bool, true, false, cond, List, [], ◌∷◌, ◌++◌, refl, ap, sym, ◌∙◌, subst, length, get_or, map, arith}
+use Rattle.std.proofs.Common.{◌≡◌, ◌≢◌, ◌<◌, ◌≤◌, ◌+◌, ◌*◌, ◌==◌, ℕ, zero, suc, ◌⊎◌, inl, inr, ⊎_elim, Bool, true, false, cond, List, [], ◌∷◌, ◌++◌, refl, ap, sym, ◌∙◌, subst, length, get_or, map, zero-add, arith}
 use Rattle.std.proofs.lemmas.Bool.{cases_eq, eqb-true}
 use Rattle.std.specs.Prelude.{slice_set}
 use Rattle.std.specs.declared.cmp.Ordering.{Ordering}
@@ -22,12 +22,16 @@ use Rattle.dbn_network.specs.declared.input.Input.TheVariants as input
 use Rattle.dbn_network.specs.Inputs.{left_in, right_in}
 use Rattle.dbn_network.specs.Values.{rows_at, rows_from, value_in}
 use Rattle.dbn_network.specs.States.{width_at, width_from, wide, IsThere, NamesIn}
+use Rattle.dbn_network.specs.Loads.{share_left, share_right}
 use Rattle.dbn_network.specs.Passes.{SameHeld, Alike, IsWide, AreWide, at_feed, events_from, Proper, LeadAll, Stepped, StandsAt, AllStand, Before, Passed}
 
 pub same_inside : {A : Type 0} (xs : List A) (i : ℕ) (d e : A) → i < length xs → get_or xs i d ≡ get_or xs i e
 same_inside [] i d e h = absurd (omega arith)
 same_inside (x ∷ xs) zero d e h = refl
 same_inside (x ∷ xs) (suc i) d e h = same_inside xs i d e (omega arith)
+
+pub at_any : {A : Type 0} (xs : List A) (i : ℕ) (x : A) → x ≡ get_or xs i x → i < length xs → (d : A) → x ≡ get_or xs i d
+at_any xs i x is h d = is ∙ same_inside xs i x d h
 
 module _ {C : Type 0} where
   pub same_none : (s : Held C) → SameHeld s s
@@ -120,7 +124,11 @@ module _ {C : Type 0} (R : C → C → Ordering) where
           (rows_from f v (left_in s.state.node)) (rows_from g w (left_in s.state.node)) (rows_from f v (right_in s.state.node)) (rows_from g w (right_in s.state.node))
           names proper left_fed.events right_fed.events stood_before left_fed.leads right_fed.leads)
 
-      made : s.read ≡ true → LeadAll R (wide s.state.node (width_from feeds nodes (left_in s.state.node)) (width_from feeds nodes (right_in s.state.node))) [] events (value_in R f v s.state.node) (value_in R g w s.state.node)
+      -- how many events the node makes at most
+      abbrev most : ℕ
+      most = length (events_from feed event all (left_in s.state.node)) * share_left R s.state.node (rows_from f v (right_in s.state.node)) + length (events_from feed event all (right_in s.state.node)) * share_right R s.state.node (rows_from g w (left_in s.state.node))
+
+      made : s.read ≡ true → LeadAll R (wide s.state.node (width_from feeds nodes (left_in s.state.node)) (width_from feeds nodes (right_in s.state.node))) most [] events (value_in R f v s.state.node) (value_in R g w s.state.node)
       made read =
           step.leads read (width_from feeds nodes (left_in s.state.node)) (width_from feeds nodes (right_in s.state.node))
           (rows_from f v (left_in s.state.node)) (rows_from g w (left_in s.state.node)) (rows_from f v (right_in s.state.node)) (rows_from g w (right_in s.state.node))
@@ -139,6 +147,13 @@ module _ {C : Type 0} (R : C → C → Ordering) where
 
       pub wide_here : AreWide (width_at nodes i) events
       wide_here = wide_read s.read refl
+
+      few_read : (c : Bool) → s.read ≡ c → length events ≤ most
+      few_read true e = subst (λ k. length events ≤ k) (zero-add most) (made e).few
+      few_read false e = subst (λ es. length es ≤ most) (sym (step.quiet e)) (omega arith)
+
+      pub few_here : length events ≤ most
+      few_here = few_read s.read refl
 
   pub one_more : (old now : List (Held C)) (feed : ℕ) (event : Event C) (i : ℕ) (all : List (List (Event C))) (s t : Held C) (events : List (Event C)) (before steps : ℕ)
       → i < length old → SoFar old feed event i now all → ((d : Held C) → s ≡ get_or now i d) → Stepped R s t (events_from feed event all (left_in s.state.node)) (events_from feed event all (right_in s.state.node)) events before steps

@@ -11,6 +11,7 @@ use Rattle.std.specs.Set.{remove_key}
 use Rattle.std.specs.List.{list_all}
 use Rattle.std.specs.List.Sorted.{IsStrictlySortedBy}
 use Rattle.std.proofs.lemmas.List.{length-append}
+use Rattle.std.proofs.Math.Nat.{le-add_right}
 use Rattle.std.proofs.lemmas.Option.{slice_get_cases}
 use Rattle.dbn_value.specs.Members.{In}
 use Rattle.dbn_value.specs.Picked.{picked}
@@ -27,13 +28,15 @@ use Rattle.dbn_nodes.specs.declared.state.Kept.{Kept}
 use Rattle.dbn_nodes.specs.Tables.{has}
 use Rattle.dbn_nodes.specs.Changes.{row_in, Leads}
 use Rattle.dbn_nodes.specs.Values.{passes, matched, added_cells, value_of}
-use Rattle.dbn_nodes.specs.Stands.{Suits, Stands, Good, LeadOn, FollowsLeft, FollowsRight, LeadsLeft, LeadsRight}
+use Rattle.dbn_nodes.specs.Stands.{Suits, Stands, Good, LeadOn, FollowsLeft, FollowsRight, LeadsLeft, LeadsRight, most_left, most_right}
 use Rattle.dbn_nodes.proofs.ChangeLaws.{rows_exact}
 use Rattle.dbn_nodes.proofs.ValueLaws.{in_joined}
 use Rattle.dbn_network.specs.States.{wide, NamesIn, AddedIn}
 use Rattle.dbn_network.specs.declared.held.Held.{Held}
 use Rattle.dbn_network.specs.declared.input.Input.{Input}
 use Rattle.dbn_network.specs.Inputs.{left_in, right_in}
+use Rattle.dbn_network.specs.Loads.{share_left, share_right}
+use Rattle.dbn_network.proofs.LoadLaws.{share_left_most, share_right_most, few_more, few_both}
 use Rattle.dbn_network.specs.Passes.{SameHeld, at_feed, events_from, RunsLeft, RunsRight, Stepped, IsWide, AreWide, Proper, LeadAll, FollowsLefts, FollowsRights, LeadsLefts, LeadsRights, FollowsBoth, LeadsBoth}
 
 module _ {C : Type 0} where
@@ -167,6 +170,7 @@ module _ {C : Type 0} {R : C → C → Ordering} (o : IsTotalOrder R) (exact : I
       let more = one m z t (good_of n l r m t names pm) (good_of n l r z t names pz) (all l r s m t names p before st front) last in
       record {
         leads = λ b start. more.leads b (done.leads b start);
+        few = few_more pre e (length was) (length mid) (length out) (share_left R n t) (most_left R n (row_in e) t) done.few more.few (share_left_most o exact n (row_in e) t);
         wide = λ w x at. ⊎_elim (λ old_one. done.wide w x old_one)
             (λ new. ⊎_elim (λ in_m. value_wide n l r m t names pm.wide_left pm.wide_right (row_in x) in_m) (λ in_z. value_wide n l r z t names pz.wide_left pz.wide_right (row_in x) in_z) new) (more.rows x at);
       }
@@ -188,26 +192,27 @@ module _ {C : Type 0} {R : C → C → Ordering} (o : IsTotalOrder R) (exact : I
       let more = one s m u (good_of n l r s m names pm) (good_of n l r s u names pu) (all l r s t m names p before st front) last in
       record {
         leads = λ b start. more.leads b (done.leads b start);
+        few = few_more pre e (length was) (length mid) (length out) (share_right R n s) (most_right R n (row_in e) s) done.few more.few (share_right_most o exact n (row_in e) s);
         wide = λ w x at. ⊎_elim (λ old_one. done.wide w x old_one)
             (λ new. ⊎_elim (λ in_m. value_wide n l r s m names pm.wide_left pm.wide_right (row_in x) in_m) (λ in_u. value_wide n l r s u names pu.wide_left pu.wide_right (row_in x) in_u) new) (more.rows x at);
       }
 
   -- ---- no event, and one event
 
-  pub stay : (width : ℕ) (was : List (Event C)) (v w : List (List C)) → v ≡ w → LeadAll R width was was v w
-  stay width was v w e = record { leads = λ b start. subst (λ x. Leads R b was x) e start; wide = λ x. x }
+  pub stay : (width most : ℕ) (was : List (Event C)) (v w : List (List C)) → v ≡ w → LeadAll R width most was was v w
+  stay width most was v w e = record { leads = λ b start. subst (λ x. Leads R b was x) e start; wide = λ x. x; few = le-add_right (length was) most }
 
   pub follows_left_none : (n : Node C) (old : Kept C) → FollowsLefts R n old old []
   follows_left_none n old l r s z t names p we st led = subst (λ x. Stands R n old x t) led st
 
   pub leads_left_none : (n : Node C) (old : Kept C) (was : List (Event C)) → LeadsLefts R n old [] was was
-  leads_left_none n old was l r s z t names p we st led = stay (wide n l r) was (value_of R n s t) (value_of R n z t) (ap (λ x. value_of R n x t) led)
+  leads_left_none n old was l r s z t names p we st led = stay (wide n l r) (0 * share_left R n t) was (value_of R n s t) (value_of R n z t) (ap (λ x. value_of R n x t) led)
 
   pub follows_right_none : (n : Node C) (old : Kept C) → FollowsRights R n old old []
   follows_right_none n old l r s t u names p we st led = subst (λ x. Stands R n old s x) led st
 
   pub leads_right_none : (n : Node C) (old : Kept C) (was : List (Event C)) → LeadsRights R n old [] was was
-  leads_right_none n old was l r s t u names p we st led = stay (wide n l r) was (value_of R n s t) (value_of R n s u) (ap (λ x. value_of R n s x) led)
+  leads_right_none n old was l r s t u names p we st led = stay (wide n l r) (0 * share_right R n s) was (value_of R n s t) (value_of R n s u) (ap (λ x. value_of R n s x) led)
 
   pub follows_left_one : (n : Node C) (old new : Kept C) (e : Event C) → FollowsLeft R n old new e → FollowsLefts R n old new (e ∷ [])
   follows_left_one n old new e one = follows_left_more n old old new [] e (follows_left_none n old) one
@@ -284,7 +289,11 @@ module _ {C : Type 0} {R : C → C → Ordering} (o : IsTotalOrder R) (exact : I
   leads_both n old mid ls rs one out left first second l r s z t u names p wl wr st led red =
       let done = first l r s z t names p wl st led in
       let more = second l r z t u names (proper_left ls l r s z t p wl led) wr (left l r s z t names p wl st led) red in
-      record { leads = λ b start. more.leads b (done.leads b start); wide = λ w. more.wide (done.wide w) }
+      record {
+        leads = λ b start. more.leads b (done.leads b start);
+        wide = λ w. more.wide (done.wide w);
+        few = few_both (length one) (length out) (length ls * share_left R n t) (length rs * share_right R n z) done.few more.few;
+      }
 
   pub left_one : (old new : Held C) (e : Event C) (was out : List (Event C)) (before steps : ℕ) → LeftOne R old new e was out before steps → RunsLeft R old new (e ∷ []) was out before steps
   left_one old new e was out before steps one = left_step old old new (e ∷ []) 0 e was was out before before steps (omega arith) refl (left_start old was before) one

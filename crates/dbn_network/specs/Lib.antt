@@ -1,5 +1,6 @@
 pub mod Holding
 pub mod Inputs
+pub mod Loads
 pub mod Passes
 pub mod States
 pub mod Values

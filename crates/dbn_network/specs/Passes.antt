@@ -16,6 +16,7 @@ use Rattle.dbn_network.specs.declared.held.Held.{Held}
 use Rattle.dbn_network.specs.Inputs.{left_in, right_in}
 use Rattle.dbn_network.specs.Values.{rows_at, rows_from, value_in}
 use Rattle.dbn_network.specs.States.{width_at, width_from, width_in, wide, NamesIn, FitsAt}
+use Rattle.dbn_network.specs.Loads.{all_loads, loads_of, share_left, share_right}
 
 module _ {C : Type 0} where
   -- all but the tables
@@ -62,10 +63,11 @@ module _ {C : Type 0} (R : C → C → Ordering) where
     pub wide_left : IsWide l s
     pub wide_right : IsWide r t
 
-  -- events that led to v lead on to w, all of rows of one width
-  pub record LeadAll (width : ℕ) (was out : List (Event C)) (v w : List (List C)) : Type 0 where
+  -- events that led to v lead on to w, all of rows of one width, at most so many new ones
+  pub record LeadAll (width most : ℕ) (was out : List (Event C)) (v w : List (List C)) : Type 0 where
     pub leads : (b : List (List C)) → Leads R b was v → Leads R b out w
     pub wide : AreWide width was → AreWide width out
+    pub few : length out ≤ length was + most
 
   -- what a node keeps follows the events of its left input, and those of its right one
   abbrev pub FollowsLefts : Node C → Kept C → Kept C → List (Event C) → Type 0
@@ -76,10 +78,10 @@ module _ {C : Type 0} (R : C → C → Ordering) where
 
   -- events that led to the node's rows before lead on to those after the events of its left input, and of its right one
   abbrev pub LeadsLefts : Node C → Kept C → List (Event C) → List (Event C) → List (Event C) → Type 0
-  LeadsLefts n old es was out = (l r : ℕ) (s z t : List (List C)) → NamesIn n l r → Proper l r s t → AreWide l es → Stands R n old s t → Leads R s es z → LeadAll (wide n l r) was out (value_of R n s t) (value_of R n z t)
+  LeadsLefts n old es was out = (l r : ℕ) (s z t : List (List C)) → NamesIn n l r → Proper l r s t → AreWide l es → Stands R n old s t → Leads R s es z → LeadAll (wide n l r) (length es * share_left R n t) was out (value_of R n s t) (value_of R n z t)
 
   abbrev pub LeadsRights : Node C → Kept C → List (Event C) → List (Event C) → List (Event C) → Type 0
-  LeadsRights n old es was out = (l r : ℕ) (s t u : List (List C)) → NamesIn n l r → Proper l r s t → AreWide r es → Stands R n old s t → Leads R t es u → LeadAll (wide n l r) was out (value_of R n s t) (value_of R n s u)
+  LeadsRights n old es was out = (l r : ℕ) (s t u : List (List C)) → NamesIn n l r → Proper l r s t → AreWide r es → Stands R n old s t → Leads R t es u → LeadAll (wide n l r) (length es * share_right R n s) was out (value_of R n s t) (value_of R n s u)
 
   -- the events of both inputs, the left ones first
   abbrev pub FollowsBoth : Node C → Kept C → Kept C → List (Event C) → List (Event C) → Type 0
@@ -88,7 +90,7 @@ module _ {C : Type 0} (R : C → C → Ordering) where
 
   abbrev pub LeadsBoth : Node C → Kept C → List (Event C) → List (Event C) → List (Event C) → Type 0
   LeadsBoth n old ls rs out =
-      (l r : ℕ) (s z t u : List (List C)) → NamesIn n l r → Proper l r s t → AreWide l ls → AreWide r rs → Stands R n old s t → Leads R s ls z → Leads R t rs u → LeadAll (wide n l r) [] out (value_of R n s t) (value_of R n z u)
+      (l r : ℕ) (s z t u : List (List C)) → NamesIn n l r → Proper l r s t → AreWide l ls → AreWide r rs → Stands R n old s t → Leads R s ls z → Leads R t rs u → LeadAll (wide n l r) (length ls * share_left R n t + length rs * share_right R n z) [] out (value_of R n s t) (value_of R n z u)
 
   -- the events ran through the left input of a node, in at most four steps each and two for each new one; a node that nothing reads made none
   pub record RunsLeft (old new : Held C) (es was out : List (Event C)) (before steps : ℕ) : Type 0 where
@@ -142,6 +144,11 @@ module _ {C : Type 0} (R : C → C → Ordering) where
     pub rows : AreRows nodes v
     pub read : AreRead states
     pub stand : AllStand states f v
+
+  -- the pass takes at most eight steps for each of the loads
+  abbrev pub Costs : List (Held C) → ℕ → Event C → ℕ → ℕ → Type 0
+  Costs old feed event before steps =
+      (feeds nodes : List ℕ) (f g v w : List (List (List C))) → Before old feed event feeds nodes f g v w → steps ≤ before + 8 * all_loads (map (λ s. s.state.node) old) (loads_of R feed v w (map (λ s. s.state.node) old))
 
   -- after the pass all nodes stand for what they read then
   abbrev pub Passed : List (Held C) → List (Held C) → ℕ → Event C → Type 0

@@ -1,4 +1,4 @@
-ghost use Rattle.std.specs.Prelude.{◌≡◌, ◌<◌, ◌++◌, ◌↔◌, [], map, length, true, false, slice_index_or, IfOk, OnOk, OnErr, IsOk, IsTrue};
+ghost use Rattle.std.specs.Prelude.{◌≡◌, ◌<◌, ◌≤◌, ◌+◌, max, ◌++◌, ◌↔◌, [], map, length, true, false, slice_index_or, IfOk, OnOk, OnErr, IsOk, IsTrue};
 ghost use Rattle.std.specs.Cmp.Lexicographic.{slice_cmp};
 ghost use Rattle.dbn_value.specs.Shape.{HasShape};
 ghost use Rattle.dbn_nodes.specs.Changes.{row_in};
@@ -9,6 +9,7 @@ ghost use Rattle.dbn_nodes.specs.Answering.{IsCounted};
 ghost use Rattle.dbn_network.specs.Values.{val};
 ghost use Rattle.dbn_network.specs.States.{Fits, with_node, with_feeds, change_at};
 ghost use Rattle.dbn_network.specs.Holding.{IsDirect};
+ghost use Rattle.dbn_network.specs.Loads.{bound};
 
 use super::adding::mark_read;
 use super::counting::{has_none, has_row, held_of_node, table_of_node};
@@ -78,8 +79,9 @@ impl<C: Cell> Network<C> {
         &self.rels
     }
 
-    /// The event of a feed: the rows of all nodes follow it. An error is want of memory, or a count that would pass 2^64-1, and then
-    /// the network is not live.
+    /// The event of a feed: the rows of all nodes follow it. It takes at most eight steps for each node and for each event that the
+    /// nodes may make or get, and one where there are no nodes. An error is want of memory, or a count that would pass 2^64-1, and
+    /// then the network is not live.
     pub fn apply<L: Ledger>(
         &mut self,
         alloc: Global,
@@ -93,6 +95,7 @@ impl<C: Cell> Network<C> {
         requires fits { FitsNow C.cmp self.old.feeds (change_at feed event.now) }
         ensures ok { OnOk result (self.new ≡ with_feeds self.old (changed C.cmp self.old.feeds (change_at feed event.now))) }
         ensures err { OnErr result (self.new.live ≡ false) }
+        ensures cost { OnOk result (steps.new ≤ steps.old + max 1 (bound C.cmp self.old.nodes feed self.old.feeds (changed C.cmp self.old.feeds (change_at feed event.now)))) }
     {
         self.live = false;
         note_at(alloc, &mut self.feeds, feed, event, steps)?;

@@ -2,7 +2,7 @@ ghost use Rattle.std.specs.Prelude.{◌≡◌, ◌<◌, ◌⊎◌, ℕ, length, 
 ghost use Rattle.dbn_network.specs.declared.held.Held.{Held as HeldOf};
 ghost use Rattle.dbn_network.specs.declared.input.Input.TheVariants as input;
 ghost use Rattle.dbn_network.specs.Inputs.{left_in, right_in};
-ghost use Rattle.dbn_network.specs.Passes.{Alike, Passed};
+ghost use Rattle.dbn_network.specs.Passes.{Alike, Costs, Passed};
 
 use super::held::Held;
 use super::step::step;
@@ -22,6 +22,7 @@ pub(crate) fn pass<C: Cell, L: Ledger>(
     requires earlier { (i : ℕ) (d : HeldOf C) → i < length states.old.items → (k : ℕ) → (left_in (slice_index_or states.old.items i d).state.node ≡ input.Earlier k) ⊎ (right_in (slice_index_or states.old.items i d).state.node ≡ input.Earlier k) → k < i }
     ensures nodes { Alike states.new.items states.old.items }
     ensures ok { OnOk result (Passed C.cmp states.old.items states.new.items feed event.now) }
+    ensures cost { OnOk result (Costs C.cmp states.old.items feed event.now steps.old steps.new) }
 {
     let mut all: Vec<Events<C>> = Vec::new(alloc);
     for i in 0..states.len() {
