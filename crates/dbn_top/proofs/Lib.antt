@@ -1,3 +1,10 @@
-pub mod Due
-pub mod Serving
-pub mod Words
+mod Keepers
+mod Making
+mod Nets
+mod Numbers
+mod Pairs
+mod Runs
+mod Saying
+mod Taking
+mod Tops
+mod Verbs

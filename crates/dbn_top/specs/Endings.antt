@@ -1,92 +1,93 @@
--- How a run of `try` ends: what its status says of the two sources and of the sink.
-use Rattle.std.specs.Prelude.{◌≡◌, ℕ, ◌+◌, ◌≤◌, ◌⊎◌, List, length, Option, Some}
+-- How a call ends: what was written, why it stopped, and what it left as it was.
+use Rattle.std.specs.Prelude.{◌≡◌, ◌≢◌, ◌⊎◌, ℕ, ◌+◌, ◌≤◌, ◌&&◌, ◌||◌, Bool, true, false, List, [], ◌++◌, length, take, Option, None, Some, is_some, is_none, IsTrue, IsFalse}
 use Rattle.std.specs.Io.KnownBytes.{Appends, Consumes, IsAtEnd}
 use Rattle.dbn_model.specs.Causes.{Rose}
-use Rattle.dbn_model.specs.Content.{AppendsFront}
-use Rattle.dbn_model.specs.Nets.{Net, Reads, ReadsNone}
-use Rattle.dbn_model.specs.Commands.{run_text}
-use Rattle.dbn_top.specs.Words.{refused_line}
+use Rattle.dbn_model.specs.Content.{SameTold}
+use Rattle.dbn_model.specs.Lines.{Line, whole_lines, due_lines}
+use Rattle.dbn_disk.specs.Disk.{DiskState}
+use Rattle.dbn_io.specs.declared.limits.Limits.{Limits}
+use Rattle.dbn_top.specs.declared.verb.Verb.{Verb}
 use Rattle.dbn_top.specs.declared.status.Status.{Status}
 use Rattle.dbn_top.specs.declared.status.Status.TheVariants as status
+use Rattle.dbn_top.specs.Calls.{Stream, Device, Call, Given, Uses, IsUntouched, IsIdle}
+use Rattle.dbn_top.specs.Writing.{Writes}
+use Rattle.dbn_top.specs.Due.{declared, uses_of, reached, answers_of}
 
--- all bytes of a source were read to its end, and there were at most `most`
-abbrev pub IsRead : Option (List ℕ) → Option (List ℕ) → ℕ → List ℕ → Type 0
-IsRead old new most bytes = Consumes old new bytes × IsAtEnd new × (length bytes ≤ most)
+-- ---- how far a run went
 
--- all bytes of the net were read, and they are the text of a net
-abbrev pub IsAccepted : Option (List ℕ) → Option (List ℕ) → ℕ → Type 0
-IsAccepted old new most = (bytes : List ℕ) × (accepted : Net) × IsRead old new most bytes × Reads bytes accepted
+-- the replies of a run that was broken off by its source are those of the lines that end within the bytes taken; the replies of
+-- one that was broken off by a disk are whole
+pub record BreaksOff (ended : Status) (lines : List Line) (source out : Stream) (answers : List Line → List ℕ) : Type 0 where
+  pub read : ended ≡ status.ReadFault → (taken : List ℕ) × Consumes source.bytes source.bytes_after taken × Appends out.bytes out.bytes_after (answers (whole_lines taken))
+  pub disk : ended ≡ status.DiskFault → (n : ℕ) × Appends out.bytes out.bytes_after (answers (take n lines))
 
--- a source had more than `most` bytes, of which one more than that were taken
-abbrev pub IsOver : Option (List ℕ) → Option (List ℕ) → ℕ → Type 0
-IsOver old new most = (front : List ℕ) × Consumes old new front × (length front ≡ most + 1)
+-- ---- what was touched
 
--- the text that is due: the line for a net that is not accepted, or the replies of its run
-abbrev pub IsDue : Option (List ℕ) → Option (List ℕ) → List ℕ → Type 0
-IsDue net commands text =
-    ((bytes : List ℕ) × (net ≡ Some bytes) × ReadsNone bytes × (text ≡ refused_line))
-    ⊎ ((bytes typed : List ℕ) × (accepted : Net) × (net ≡ Some bytes) × (commands ≡ Some typed) × Reads bytes accepted × (text ≡ run_text accepted typed))
+-- what is used was read to its end
+pub record IsReadWhole (uses : Uses) (call : Call) : Type 0 where
+  pub net : IsTrue uses.net → IsAtEnd call.net.bytes_after
+  pub commands : IsTrue uses.commands → IsAtEnd call.commands.bytes_after
 
--- a source or a sink, before the call and after it
-pub record Stream : Type 0 where
-  pub bytes : Option (List ℕ)
-  pub bytes_after : Option (List ℕ)
-  pub faults : ℕ
-  pub faults_after : ℕ
+-- what is not used stays as it was, and a fault is told only where something that is used failed
+pub record Touches (uses : Uses) (ended : Status) (call : Call) : Type 0 where
+  pub net : IsFalse uses.net → IsUntouched call.net
+  pub commands : IsFalse uses.commands → IsUntouched call.commands
+  pub read_fault : ended ≡ status.ReadFault → (IsTrue uses.net × Rose call.net.faults call.net.faults_after) ⊎ (IsTrue uses.commands × Rose call.commands.faults call.commands.faults_after)
+  pub write_fault : ended ≡ status.WriteFault → Rose call.out.faults call.out.faults_after
 
-abbrev pub IsUntouched : Stream → Type 0
-IsUntouched stream = (stream.bytes_after ≡ stream.bytes) × (stream.faults_after ≡ stream.faults)
+-- the same of the disks
+pub record TouchesDisks (uses : Uses) (ended : Status) (a b : Device) : Type 0 where
+  pub a_idle : IsFalse uses.disks → IsIdle a
+  pub b_idle : IsFalse uses.disks → IsIdle b
+  pub fault : ended ≡ status.DiskFault → IsTrue uses.disks × (Rose a.before.faults a.after.faults ⊎ Rose b.before.faults b.after.faults)
 
-abbrev pub HasFault : Stream → Type 0
-HasFault stream = Rose stream.faults stream.faults_after
+-- ---- what is kept, told or not
 
-pub record Try : Type 0 where
-  pub net : Stream
-  pub net_bytes : ℕ
-  pub commands : Stream
-  pub input_bytes : ℕ
-  pub out : Stream
+-- no more than one byte above the limit was taken
+pub record TakesFew (most : ℕ) (source : Stream) : Type 0 where
+  pub taken : List ℕ
+  pub consumed : Consumes source.bytes source.bytes_after taken
+  pub few : length taken ≤ most + 1
 
--- a front of what was due was written
-abbrev pub WritesFront : Try → Type 0
-WritesFront try = (text : List ℕ) → IsDue try.net.bytes try.commands.bytes text → AppendsFront try.out.bytes try.out.bytes_after text
+-- a count rises only where the status tells it, and never falls; what is told stays told
+pub record Keeps (ended : Status) (call : Call) : Type 0 where
+  pub sources : ended ≢ status.ReadFault → (call.net.faults_after ≡ call.net.faults) × (call.commands.faults_after ≡ call.commands.faults)
+  pub sink : ended ≢ status.WriteFault → call.out.faults_after ≡ call.out.faults
+  pub told : SameTold call.net.bytes call.net.bytes_after × SameTold call.commands.bytes call.commands.bytes_after × SameTold call.out.bytes call.out.bytes_after
+  pub later : (call.net.faults ≤ call.net.faults_after) × (call.commands.faults ≤ call.commands.faults_after) × (call.out.faults ≤ call.out.faults_after)
+  pub few : TakesFew call.limits.net_bytes call.net × TakesFew call.limits.input_bytes call.commands
 
--- the net was read whole, and it is the text of no net
-abbrev pub NetIsRefused : Try → Type 0
-NetIsRefused try = (bytes : List ℕ) × IsRead try.net.bytes try.net.bytes_after try.net_bytes bytes × ReadsNone bytes
+abbrev pub both_told : DiskState → DiskState → Bool
+both_told a b = is_some a.content && is_some b.content
 
--- the net was read whole, and it is accepted
-abbrev pub NetIsAccepted : Try → Type 0
-NetIsAccepted try = IsAccepted try.net.bytes try.net.bytes_after try.net_bytes
+abbrev pub both_honest : DiskState → DiskState → Bool
+both_honest a b = a.honest && b.honest
 
--- all that comes before the first reply was read: a net that is refused, or an accepted net and all commands
-abbrev pub AllIsRead : Try → Type 0
-AllIsRead try =
-    NetIsRefused try
-    ⊎ (NetIsAccepted try × ((typed : List ℕ) × IsRead try.commands.bytes try.commands.bytes_after try.input_bytes typed))
+-- the same of the disks, each in its own place
+pub record KeepsDisks (ended : Status) (a b : Device) : Type 0 where
+  pub calm : ended ≢ status.DiskFault → (a.after.faults ≡ a.before.faults) × (b.after.faults ≡ b.before.faults)
+  pub later : (a.before.faults ≤ a.after.faults) × (b.before.faults ≤ b.after.faults)
+  pub told : both_told a.after b.after ≡ both_told a.before b.before
+  pub honest : both_honest a.after b.after ≡ both_honest a.before b.before
 
-abbrev pub IsAnswered : Try → Type 0
-IsAnswered try =
-    (bytes typed : List ℕ) × (accepted : Net)
-    × IsRead try.net.bytes try.net.bytes_after try.net_bytes bytes × Reads bytes accepted
-    × IsRead try.commands.bytes try.commands.bytes_after try.input_bytes typed
-    × Appends try.out.bytes try.out.bytes_after (run_text accepted typed)
+-- ---- the whole ending
 
-abbrev pub IsPastLimit : Try → Type 0
-IsPastLimit try =
-    IsOver try.net.bytes try.net.bytes_after try.net_bytes
-    ⊎ (IsOver try.commands.bytes try.commands.bytes_after try.input_bytes × NetIsAccepted try)
+-- the statuses with which a verb can end, told or not
+abbrev pub can_end : Option Verb → Status → Bool
+can_end verb status.Done = is_some verb
+can_end verb status.Usage = is_none verb
+can_end verb status.Net = (uses_of verb).net
+can_end verb status.Store = (uses_of verb).disks
+can_end verb status.ReadFault = (uses_of verb).net || (uses_of verb).commands
+can_end verb status.WriteFault = true
+can_end verb status.DiskFault = (uses_of verb).disks
+can_end verb status.InputLimit = (uses_of verb).net || (uses_of verb).commands
+can_end verb status.Memory = true
 
-abbrev pub CouldNotRead : Try → Type 0
-CouldNotRead try = HasFault try.net ⊎ (HasFault try.commands × NetIsAccepted try)
-
-abbrev pub TryEnds : Status → Try → Type 0
-TryEnds status.Done try = IsAnswered try
-TryEnds status.Usage try = ⊥
-TryEnds status.Net try = NetIsRefused try × Appends try.out.bytes try.out.bytes_after refused_line
-TryEnds status.Store try = ⊥
-TryEnds status.ReadFault try = CouldNotRead try × IsUntouched try.out
-TryEnds status.WriteFault try = HasFault try.out × AllIsRead try × WritesFront try
-TryEnds status.DiskFault try = ⊥
-TryEnds status.InputLimit try = IsPastLimit try × IsUntouched try.out
-TryEnds status.Memory try = WritesFront try
+-- what was written, how far a run went, and the order of work: what was not reached is untouched
+pub record Ends (ended : Status) (call : Call) (given : Given) : Type 0 where
+  pub writes : Writes ended (declared call.limits call.verb given) call.out
+  pub served : (answers : List Line → List ℕ) → answers_of call.limits call.verb given ≡ Some answers
+      → BreaksOff ended (due_lines call.limits.input_bytes given.commands) call.commands call.out answers
+  pub read : ended ≡ status.Done → IsReadWhole (uses_of call.verb) call
+  pub order : Touches (reached call.limits call.verb given) ended call

@@ -1,4 +1,10 @@
+pub mod Calls
+pub mod Crashes
+pub mod Demos
+pub mod Due
 pub mod Endings
+pub mod Keepers
+pub mod Starts
 pub mod Statuses
-pub mod Views
 pub mod Words
+pub mod Writing

@@ -1,19 +1,24 @@
 //! The top call: a run of the engine over two sources, a sink and two disks.
 #![tactic(auto)]
 
-mod command;
-mod declared;
-mod line;
-mod net;
-mod read_net;
-mod reply;
-mod serve;
-mod spelled;
-mod state;
+mod accepting;
+mod check;
+mod demo;
+mod dump;
+mod ended;
+mod laws;
+mod new;
+mod opening;
+mod run;
+mod say;
+mod serving;
 mod status;
-#[cfg(test)]
-mod tests;
 mod top;
+mod trying;
+mod verb;
+mod words;
 
+pub use ended::Ended;
+pub use laws::calls_without_a_fault_end_as_declared;
 pub use status::Status;
-pub use top::{Ended, dbnet};
+pub use top::dbnet;

@@ -1,8 +1,8 @@
-//! The program `dbnet`: it works in the current folder on the file `net.dbn`, takes commands from standard input and
-//! writes the replies to standard output. It ends with the number of the status of its run.
+//! The program `dbnet`: it works in the current folder on the files `net.dbn`, `a.dbn` and `b.dbn`, takes commands from
+//! standard input and writes to standard output. It ends with the number of the status of its run.
 #![tactic(auto)]
 
-use dbn_disk::ClosedDisk;
+use dbn_disk::FileDisk;
 use dbn_io::{LazyFileSource, Limits, StdSink, StdSource};
 use dbn_top::{Status, dbnet};
 use std::alloc::AllocError;
@@ -12,6 +12,11 @@ use std::process::ExitCode;
 
 // The file with the text of the net.
 const NET_FILE: &str = "net.dbn";
+
+// The two files of the store.
+const FIRST_FILE: &str = "a.dbn";
+
+const SECOND_FILE: &str = "b.dbn";
 
 // The limits of the program, in bytes.
 const LIMITS: Limits = Limits {
@@ -38,8 +43,8 @@ fn run(rt: &HostRuntime) -> Status {
         &mut net,
         &mut commands,
         &mut out,
-        ClosedDisk::new(),
-        ClosedDisk::new(),
+        FileDisk::new(rt, FIRST_FILE),
+        FileDisk::new(rt, SECOND_FILE),
         &LIMITS,
     );
     ended.status
