@@ -27,8 +27,8 @@ contents (Some x) (Some y) e = (x, y, refl, refl)
 contents (Some x) None e = cc
 contents None p e = cc
 
-same_folder : (f g : Folder) → Some f ≡ Some g → f ≡ g
-same_folder f g e = cc
+two_same : (o p o' p' : Option (List ℕ)) → (o ∷ p ∷ []) ≡ (o' ∷ p' ∷ []) → (o ≡ o') × (p ≡ p')
+two_same o p o' p' e = (cc, cc)
 
 -- both disks tell what they hold where the keeper does
 pub both_known : (keeper : KeeperState) (a b : DiskState) → IsOver keeper a b → is_some keeper.held ≡ true → (x : List ℕ) × (y : List ℕ) × (a.content ≡ Some x) × (b.content ≡ Some y)
@@ -38,10 +38,8 @@ module _ (old new : KeeperState) (a b a' b' : DiskState) (over : IsOver old a b)
   -- where the keeper's files stay, so does what the disks stand for
   pub stays_from : ShowsOnly old a b → ShowsAll new a' b' → SameFiles old new → Stays (device a a') (device b b')
   stays_from only all files = record {
-    content = λ x y a_told b_told.
-        let told : old.held ≡ Some (folder x y) = over.held x y a_told b_told in
-        let there = both_known new a' b' over' (keeps.told ∙ ap (λ (o : Option Folder). is_some o) told) in
-        (there.0, there.1, there.2, there.3, same_folder _ _ (sym (over'.held there.0 there.1 there.2 there.3) ∙ files.held ∙ told));
+    first = (two_same a'.content b'.content a.content b.content (sym over'.bytes ∙ files.bytes ∙ over.bytes)).0;
+    second = (two_same a'.content b'.content a.content b.content (sym over'.bytes ∙ files.bytes ∙ over.bytes)).1;
     image = λ honest u v a_image b_image.
         only honest (folder u v) (files.image (subst IsTrue (sym over.honest) honest) (folder u v) (all u v a_image b_image));
   }
@@ -163,6 +161,7 @@ over_same old new a b over keeps files calm = record {
   told = keeps.told ∙ over.told;
   honest = keeps.honest ∙ over.honest;
   faults = calm ∙ over.faults;
+  bytes = files.bytes ∙ over.bytes;
   held = λ x y a_told b_told. files.held ∙ over.held x y a_told b_told;
 }
 

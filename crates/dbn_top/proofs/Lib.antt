@@ -1,3 +1,5 @@
+mod Completes
+mod GroupLaws
 mod Keepers
 mod Making
 mod Nets

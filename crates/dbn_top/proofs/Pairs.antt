@@ -4,7 +4,7 @@ use Rattle.dbn_model.specs.Causes.{Rose}
 use Rattle.dbn_disk.specs.Disk.{DiskState, Only}
 use Rattle.dbn_keeper.specs.Files.{Folder, folder}
 use Rattle.dbn_keeper.specs.Keeping.{KeeperState, RoseIn}
-use Rattle.dbn_keeper.specs.TwoFiles.{pair_of, pair_list, both_held, Cursor, two_state}
+use Rattle.dbn_keeper.specs.TwoFiles.{pair_of, pair_list, pair_bytes, both_held, Cursor, two_state}
 use Rattle.dbn_twofile.specs.Finding.{OnlySynced}
 use Rattle.dbn_top.specs.Endings.{both_told, both_honest}
 use Rattle.dbn_top.specs.Keepers.{IsOver, ShowsAll, ShowsOnly}
@@ -25,6 +25,7 @@ pub record Sides (swapped : Bool) (chosen other first second : DiskState) : Type
   pub told : is_some (both_held swapped chosen.content other.content) ≡ both_told first second
   pub honest : (chosen.honest && other.honest) ≡ both_honest first second
   pub faults : pair_list swapped chosen.faults other.faults ≡ first.faults ∷ second.faults ∷ []
+  pub bytes : pair_bytes swapped chosen.content other.content ≡ first.content ∷ second.content ∷ []
   pub held : (x y : List ℕ) → first.content ≡ Some x → second.content ≡ Some y → both_held swapped chosen.content other.content ≡ Some (folder x y)
   pub only : (f : Folder) → ((x : List ℕ) × (y : List ℕ) × chosen.image x × other.image y × (pair_of swapped x y ≡ f)) → ((x : List ℕ) × (y : List ℕ) × first.image x × second.image y × (folder x y ≡ f))
 
@@ -36,6 +37,7 @@ sides true chosen other = record {
   told = told_of true chosen.content other.content ∙ and_swap (is_some chosen.content) (is_some other.content);
   honest = and_swap chosen.honest other.honest;
   faults = refl;
+  bytes = refl;
   held = λ x y first second. both chosen.content other.content true y x second first;
   only = λ f image. (image.1, image.0, image.3, image.2, image.4);
 }
@@ -43,6 +45,7 @@ sides false chosen other = record {
   told = told_of false chosen.content other.content;
   honest = refl;
   faults = refl;
+  bytes = refl;
   held = λ x y first second. both chosen.content other.content false x y first second;
   only = λ f image. image;
 }
@@ -56,7 +59,7 @@ sides_of state false chosen other first second is_first is_second =
 
 -- a keeper over its disks in their places
 pub over_sides : (k : Cursor) (chosen other first second : DiskState) → Sides k.swapped chosen other first second → IsOver (two_state k chosen other) first second
-over_sides k chosen other first second s = record { told = s.told; honest = s.honest; faults = s.faults; held = s.held }
+over_sides k chosen other first second s = record { told = s.told; honest = s.honest; faults = s.faults; bytes = s.bytes; held = s.held }
 
 -- a keeper that was found over disks that were only synced
 pub over_found : (k : Cursor) (chosen other first second a b : DiskState) → Sides k.swapped chosen other first second → OnlySynced a first → OnlySynced b second → (first.faults ≡ a.faults) × (second.faults ≡ b.faults)
@@ -64,6 +67,7 @@ pub over_found : (k : Cursor) (chosen other first second a b : DiskState) → Si
 over_found k chosen other first second a b s synced_a synced_b faults = record {
   told = s.told ∙ ap (λ (t : Bool). t && is_some second.content) synced_a.keeps.told ∙ ap (λ (t : Bool). is_some a.content && t) synced_b.keeps.told;
   honest = s.honest ∙ ap (λ (t : Bool). t && second.honest) synced_a.keeps.honest ∙ ap (λ (t : Bool). a.honest && t) synced_b.keeps.honest;
+  bytes = s.bytes ∙ ap (λ (o : Option (List ℕ)). o ∷ second.content ∷ []) synced_a.same ∙ ap (λ (o : Option (List ℕ)). a.content ∷ o ∷ []) synced_b.same;
   faults = s.faults ∙ ap (λ (n : ℕ). n ∷ second.faults ∷ []) faults.0 ∙ ap (λ (n : ℕ). a.faults ∷ n ∷ []) faults.1;
   held = λ x y a_told b_told. s.held x y (synced_a.same ∙ a_told) (synced_b.same ∙ b_told);
 }

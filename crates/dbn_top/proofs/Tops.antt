@@ -36,6 +36,7 @@ use Rattle.dbn_top.specs.Keepers.{IsOver, ShowsAll, ShowsOnly, IsWhy, status_of_
 use Rattle.dbn_top.specs.Starts.{Found, found, found_in, run_in, is_there, accepted_in, terms_of}
 use Rattle.dbn_top.specs.Starts.Found.{NoFile, NoStore, Damage, Runs}
 use Rattle.dbn_top.specs.Writing.{Writes, Declared, is_broken_off, due as due_record}
+use Rattle.dbn_top.proofs.GroupLaws.{behind_groups}
 use Rattle.dbn_top.proofs.Keepers.{both_known, store_in, meaning_of}
 use Rattle.dbn_top.proofs.Runs.{stands_after, is_done}
 use Rattle.dbn_top.proofs.Saying.{said_nothing}
@@ -49,7 +50,7 @@ pub idle_disks : (uses : Uses) (ended : Status) (a b : DiskState) → ended ≢ 
 idle_disks uses ended a b never = record { a_idle = λ e. idle a; b_idle = λ e. idle b; fault = λ e. absurd (never e) }
 
 pub same_files : (a b : DiskState) → Stays (device a a) (device b b)
-same_files a b = record { content = λ x y a_told b_told. (x, y, a_told, b_told, refl); image = λ honest u v a_image b_image. (u, v, a_image, b_image, refl) }
+same_files a b = record { first = refl; second = refl; image = λ honest u v a_image b_image. (u, v, a_image, b_image, refl) }
 
 pub kept_same : (disk : DiskState) → IsKept (device disk disk)
 kept_same disk = record { content = refl; image = λ honest bytes x. x }
@@ -87,7 +88,7 @@ pub at_start : (ended : Status) (terms : Terms) (r : RunState) (due : List Line)
 at_start ended terms r due x y silent stays is = record {
   n = answered (replies (step terms) r due) 0;
   after = stays (answered (replies (step terms) r due) 0);
-  stands = is ∙ ap (λ (s : RunState). Some s.now) (sym (answered-blank (step terms) r due silent));
+  stands = behind_groups terms r (take (answered (replies (step terms) r due) 0) due) (folder x y) (is ∙ ap (λ (s : RunState). Some s.now) (sym (answered-blank (step terms) r due silent)));
 }
 
 -- files that stay, on settled disks
@@ -183,7 +184,7 @@ module _ (ended : RunEnd) (limits : Limits) (every : Option ℕ) (given : Given)
       wrote = serves.wrote;
       each = λ u v a_image b_image.
           let there = serves.stands holds.0 held honest_old (folder u v) (all u v a_image b_image) in
-          record { n = there.0; after = stands_after ended _ there.0 there.1; stands = there.2 };
+          record { n = there.0; after = stands_after ended _ there.0 there.1; stands = behind_groups (terms_of limits every) (run_state now old) (take there.0 due) (folder u v) there.2 };
     },
     λ e.
         let done = whole_done ended (is_done ended e) in
@@ -319,7 +320,8 @@ and_true false q e = cc
 
 pub kept_stays : (a b a' b' : DiskState) → IsKept (device a a') → IsKept (device b b') → Stays (device a a') (device b b')
 kept_stays a b a' b' first second = record {
-  content = λ x y a_told b_told. (x, y, first.content ∙ a_told, second.content ∙ b_told, refl);
+  first = first.content;
+  second = second.content;
   image = λ honest u v a_image b_image. let fair = and_true a.honest b.honest honest in (u, v, first.image fair.0 u a_image, second.image fair.1 v b_image, refl);
 }
 
@@ -344,7 +346,7 @@ pub same_self : (keeper : KeeperState) → KeepsBounds keeper keeper
 same_self keeper = record { told = refl; honest = refl; cap = refl; last = refl }
 
 pub files_self : (keeper : KeeperState) → SameFiles keeper keeper
-files_self keeper = record { held = refl; moment = λ honest. refl; image = λ honest f image. image; since = λ honest t f since. since; steady = λ honest t steady. steady }
+files_self keeper = record { held = refl; bytes = refl; moment = λ honest. refl; image = λ honest f image. image; since = λ honest t f since. since; steady = λ honest t steady. steady }
 
 pub runs_there : (begun : Found) (r : RunState) → begun ≡ Runs r → is_there (run_in begun) ≡ true
 runs_there begun r e = ap (λ (f : Found). is_there (run_in f)) e
@@ -353,6 +355,10 @@ pub not_after : (ended other : Status) → (ended ≡ status.Done) ⊎ (ended �
 not_after ended other (inl e) done write memory is = done (sym is ∙ e)
 not_after ended other (inr (inl e)) done write memory is = write (sym is ∙ e)
 not_after ended other (inr (inr e)) done write memory is = memory (sym is ∙ e)
+
+-- a last line was said: no source and no disk failed
+pub said_never : (ended : Status) → (ended ≡ status.Done) ⊎ (ended ≡ status.WriteFault) ⊎ (ended ≡ status.Memory) → (ended ≢ status.ReadFault) × (ended ≢ status.DiskFault)
+said_never ended which = (not_after ended status.ReadFault which (λ e. cc) (λ e. cc) (λ e. cc), not_after ended status.DiskFault which (λ e. cc) (λ e. cc) (λ e. cc))
 
 no_answers : (answers : List Line → List ℕ) → None ≡ Some answers → ⊥
 no_answers answers e = cc
@@ -365,6 +371,30 @@ dump_ends ended limits net commands out given writes read write same same_too = 
   read = λ e. record { net = λ none. absurd (true≢false (sym none)); commands = λ none. absurd (true≢false (sym none)) };
   order = record { net = λ _. same; commands = λ _. same_too; read_fault = λ e. absurd (read e); write_fault = write };
 }
+
+pub dump_touches : (ended : Status) (limits : Limits) (net commands out : Stream) → ended ≢ status.ReadFault → (ended ≡ status.WriteFault → Rose out.faults out.faults_after) → IsUntouched net → IsUntouched commands
+    → Touches (uses_of (Some Dump)) ended (call_of (Some Dump) limits net commands out)
+dump_touches ended limits net commands out read write same same_too = record { net = λ _. same; commands = λ _. same_too; read_fault = λ e. absurd (read e); write_fault = write }
+
+pub dump_keeps : (ended : Status) (limits : Limits) (net commands out : Stream) → (ended ≢ status.WriteFault → out.faults_after ≡ out.faults) → SameTold out.bytes out.bytes_after → out.faults ≤ out.faults_after → IsUntouched net → IsUntouched commands
+    → Keeps ended (call_of (Some Dump) limits net commands out)
+dump_keeps ended limits net commands out sink told later same same_too = record {
+  sources = λ never. (same.1, same_too.1);
+  sink = sink;
+  told = (ap (λ (o : Option (List ℕ)). is_some o) same.0, ap (λ (o : Option (List ℕ)). is_some o) same_too.0, told);
+  later = (omega (arith, same.1), omega (arith, same_too.1), later);
+  few = (few_of_none limits.net_bytes net same, few_of_none limits.input_bytes commands same_too);
+}
+
+pub dump_disks : (ended : Status) (a b : Device) → ended ≢ status.DiskFault → TouchesDisks (uses_of (Some Dump)) ended a b
+dump_disks ended a b never = record { a_idle = λ none. absurd (true≢false none); b_idle = λ none. absurd (true≢false none); fault = λ e. absurd (never e) }
+
+pub run_touches : (ended : Status) (limits : Limits) (every : Option ℕ) (net commands out : Stream) → (ended ≡ status.ReadFault → Rose commands.faults commands.faults_after) → (ended ≡ status.WriteFault → Rose out.faults out.faults_after) → IsUntouched net
+    → Touches (uses_of (Some (Run every))) ended (call_of (Some (Run every)) limits net commands out)
+run_touches ended limits every net commands out read write same = record { net = λ _. same; commands = λ none. absurd (true≢false none); read_fault = λ e. inr (refl, read e); write_fault = write }
+
+pub run_disks : (ended : Status) (every : Option ℕ) (a b : Device) → (ended ≡ status.DiskFault → Rose a.before.faults a.after.faults ⊎ Rose b.before.faults b.after.faults) → TouchesDisks (uses_of (Some (Run every))) ended a b
+run_disks ended every a b rose = record { a_idle = λ none. absurd (true≢false none); b_idle = λ none. absurd (true≢false none); fault = λ e. (refl, rose e) }
 
 pub run_keeps : (ended : Status) (limits : Limits) (every : Option ℕ) (net commands out : Stream) → (ended ≢ status.ReadFault → commands.faults_after ≡ commands.faults) → (ended ≢ status.WriteFault → out.faults_after ≡ out.faults)
     → SameTold commands.bytes commands.bytes_after × SameTold out.bytes out.bytes_after → (commands.faults ≤ commands.faults_after) × (out.faults ≤ out.faults_after) → TakesFew limits.input_bytes commands → IsUntouched net

@@ -1,9 +1,10 @@
 -- The verbs that read a net: how a call ends whose net is accepted, and one whose net is not.
-use Rattle.std.proofs.Common.{◌≡◌, ◌≢◌, ◌⊎◌, ℕ, nat_lt, Bool, true, false, cond, List, [], length, take, Option, None, Some, Result, Ok, Err, IsTrue, IsFalse, inl, inr, refl, sym, ap, subst, ◌∙◌, append-nil}
+use Rattle.std.proofs.Common.{◌≡◌, ◌≢◌, ◌⊎◌, ℕ, ◌≤◌, nat_lt, Bool, true, false, cond, List, [], length, take, Option, None, Some, is_some, Result, Ok, Err, IsTrue, IsFalse, inl, inr, refl, sym, ap, subst, ◌∙◌, arith, append-nil}
 use Rattle.std.specs.Prelude.{codes}
 use Rattle.std.proofs.lemmas.Bool.{true≢false}
 use Rattle.std.specs.Io.KnownBytes.{Appends, Consumes, IsAtEnd}
 use Rattle.dbn_model.specs.Causes.{Rose}
+use Rattle.dbn_model.specs.Content.{SameTold}
 use Rattle.dbn_model.specs.Lines.{Line, due_lines, whole_lines}
 use Rattle.dbn_model.specs.Runs.{text_of}
 use Rattle.dbn_io.specs.declared.limits.Limits.{Limits}
@@ -16,10 +17,11 @@ use Rattle.dbn_top.specs.declared.verb.Verb.TheVariants.{Check, Try, New}
 use Rattle.dbn_top.specs.declared.status.Status.{Status}
 use Rattle.dbn_top.specs.declared.status.Status.TheVariants as status
 use Rattle.dbn_top.specs.Calls.{Stream, Given, IsUntouched, stream, call_of}
-use Rattle.dbn_top.specs.Due.{with_net, net_line, replies, making, answers_from, memory_run}
-use Rattle.dbn_top.specs.Endings.{BreaksOff, Ends, can_end}
+use Rattle.dbn_top.specs.Due.{with_net, net_line, replies, making, answers_from, memory_run, uses_of}
+use Rattle.dbn_top.specs.Endings.{BreaksOff, Ends, Touches, Keeps, TakesFew, can_end}
 use Rattle.dbn_top.specs.Starts.{by_reading, accepted_in, run_in_memory, terms_of, is_there}
 use Rattle.dbn_top.specs.Writing.{Declared, due, Writes}
+use Rattle.dbn_top.proofs.Tops.{few_of_none}
 
 pub same_situation : (s t : Situation) → Some s ≡ Some t → s ≡ t
 same_situation s t e = cc
@@ -126,6 +128,11 @@ module _ (ended : Status) (limits : Limits) (net commands out : Stream) (given :
     order = record { net = λ none. absurd (true≢false none); commands = λ _. same; read_fault = λ e. inl (refl, read e); write_fault = write };
   }
 
+pub check_kind : (ended : Status) → (ended ≡ status.Done) ⊎ (ended ≡ status.WriteFault) ⊎ (ended ≡ status.Memory) → IsTrue (can_end (Some Check) ended)
+check_kind ended (inl e) = subst (λ (s : Status). IsTrue (can_end (Some Check) s)) (sym e) refl
+check_kind ended (inr (inl e)) = subst (λ (s : Status). IsTrue (can_end (Some Check) s)) (sym e) refl
+check_kind ended (inr (inr e)) = subst (λ (s : Status). IsTrue (can_end (Some Check) s)) (sym e) refl
+
 pub try_kind : (ended : Status) → ended ≢ status.Usage → ended ≢ status.Store → ended ≢ status.DiskFault → IsTrue (can_end (Some Try) ended)
 try_kind status.Done usage store disk = refl
 try_kind status.Usage usage store disk = absurd (usage refl)
@@ -147,6 +154,27 @@ new_kind status.WriteFault usage = refl
 new_kind status.DiskFault usage = refl
 new_kind status.InputLimit usage = refl
 new_kind status.Memory usage = refl
+
+-- ---- what a call uses and keeps that read its net whole
+
+pub net_touches : (ended : Status) (verb : Option Verb) (limits : Limits) (net commands out : Stream) → IsTrue (uses_of verb).net → ended ≢ status.ReadFault → (ended ≡ status.WriteFault → Rose out.faults out.faults_after) → IsUntouched commands
+    → Touches (uses_of verb) ended (call_of verb limits net commands out)
+net_touches ended verb limits net commands out used read write same = record {
+  net = λ none. absurd (true≢false (sym used ∙ none));
+  commands = λ _. same;
+  read_fault = λ e. absurd (read e);
+  write_fault = write;
+}
+
+pub net_keeps : (ended : Status) (verb : Option Verb) (limits : Limits) (net commands out : Stream) → net.faults_after ≡ net.faults → (ended ≢ status.WriteFault → out.faults_after ≡ out.faults)
+    → SameTold net.bytes net.bytes_after → SameTold out.bytes out.bytes_after → out.faults ≤ out.faults_after → TakesFew limits.net_bytes net → IsUntouched commands → Keeps ended (call_of verb limits net commands out)
+net_keeps ended verb limits net commands out calm sink told told_out later few same = record {
+  sources = λ never. (calm, same.1);
+  sink = sink;
+  told = (told, ap (λ (o : Option (List ℕ)). is_some o) same.0, told_out);
+  later = (omega (arith, calm), omega (arith, same.1), later);
+  few = (few, few_of_none limits.input_bytes commands same);
+}
 
 -- ---- after a net was read, of which nothing was written
 

@@ -1,10 +1,11 @@
 -- What a crash now may leave of both disks.
-use Rattle.std.specs.Prelude.{◌≡◌, ◌⊎◌, ℕ, ◌+◌, Bool, true, false, ◌&&◌, ◌||◌, not, List, [], ◌∷◌, length, take, Option, None, Some, Ok, IsTrue}
+use Rattle.std.specs.Prelude.{◌≡◌, ◌⊎◌, ℕ, ◌+◌, Bool, true, false, ◌&&◌, ◌||◌, not, List, [], ◌∷◌, ◌++◌, length, take, Option, None, Some, Ok, IsTrue}
 use Rattle.std.specs.Io.KnownBytes.{Appends}
 use Rattle.dbn_model.specs.Lines.{Line, due_lines}
 use Rattle.dbn_model.specs.Runs.{state_after, replies, answered}
 use Rattle.dbn_disk.specs.Disk.{Only}
 use Rattle.dbn_io.specs.declared.limits.Limits.{Limits}
+use Rattle.dbn_value.specs.declared.member.Member.{Member}
 use Rattle.dbn_keeper.specs.Creating.{is_made}
 use Rattle.dbn_keeper.specs.Files.{Folder, folder, new_store}
 use Rattle.dbn_keeper.specs.Files.Folder.{NotMade, NotAStore, Holds}
@@ -18,6 +19,7 @@ use Rattle.dbn_top.specs.declared.status.Status.TheVariants as status
 use Rattle.dbn_top.specs.Calls.{Stream, Device, Call, Given}
 use Rattle.dbn_top.specs.Due.{reached}
 use Rattle.dbn_top.specs.Endings.{TouchesDisks, both_honest}
+use Rattle.dbn_top.specs.Groups.{groups_of, StandsBehind}
 use Rattle.dbn_top.specs.Starts.{accepted_in, base_of, terms_of, Found, found, run_in, is_there}
 use Rattle.dbn_top.specs.Starts.Found.{NoFile, Runs}
 
@@ -35,11 +37,22 @@ StandsAfter status.DiskFault acknowledged n = (n ≡ acknowledged) ⊎ (n ≡ ac
 StandsAfter status.InputLimit acknowledged n = n ≡ acknowledged
 StandsAfter status.Memory acknowledged n = (n ≡ acknowledged) ⊎ (n ≡ acknowledged + 1)
 
--- files that stand for the state after a front of the lines that holds every acknowledged one
+-- files that stand for what was found at opening, followed by the groups of the first lines, each with all its members. These
+-- are no fewer lines than were acknowledged.
 pub record StandsFront (ended : Status) (terms : Terms) (r : RunState) (lines : List Line) (written x y : List ℕ) : Type 0 where
   pub n : ℕ
   pub after : StandsAfter ended (answered (replies (step terms) r lines) (length written)) n
-  pub stands : meaning (folder x y) ≡ Some (state_after (step terms) r (take n lines)).now
+  pub stands : StandsBehind r.now (groups_of terms r (take n lines)) (folder x y)
+
+-- the same, said of the groups alone: what was found at opening, followed by a front of the groups that holds every acknowledged
+-- one
+pub record IsFrontOfGroups (terms : Terms) (r : RunState) (lines : List Line) (written x y : List ℕ) : Type 0 where
+  pub fired : List (List Member)
+  pub rest : List (List Member)
+  pub more : List (List Member)
+  pub front : groups_of terms r lines ≡ fired ++ rest
+  pub acknowledged : fired ≡ groups_of terms r (take (answered (replies (step terms) r lines) (length written)) lines) ++ more
+  pub stands : StandsBehind r.now fired (folder x y)
 
 -- whatever files a crash now leaves, they stand for such a front
 pub record IsPrefix (ended : Status) (terms : Terms) (r : RunState) (lines : List Line) (out : Stream) (a b : Device) : Type 0 where
@@ -108,10 +121,10 @@ pub record IsKept (disk : Device) : Type 0 where
   pub content : disk.after.content ≡ disk.before.content
   pub image : IsTrue disk.before.honest → (bytes : List ℕ) → disk.after.image bytes → disk.before.image bytes
 
--- what the two files stand for stays, and a crash leaves nothing that stands for anything else than before
+-- the bytes that are held stay, and a crash leaves nothing that stands for anything else than before
 pub record Stays (a b : Device) : Type 0 where
-  pub content : (x y : List ℕ) → a.before.content ≡ Some x → b.before.content ≡ Some y
-      → (u : List ℕ) × (v : List ℕ) × (a.after.content ≡ Some u) × (b.after.content ≡ Some v) × (folder u v ≡ folder x y)
+  pub first : a.after.content ≡ a.before.content
+  pub second : b.after.content ≡ b.before.content
   pub image : IsTrue (both_honest a.before b.before) → (u v : List ℕ) → a.after.image u → b.after.image v
       → (x : List ℕ) × (y : List ℕ) × a.before.image x × b.before.image y × (folder x y ≡ folder u v)
 

@@ -20,6 +20,7 @@ pub record IsOver (keeper : KeeperState) (a b : DiskState) : Type 0 where
   pub told : is_some keeper.held ≡ both_told a b
   pub honest : keeper.honest ≡ both_honest a b
   pub faults : keeper.faults ≡ a.faults ∷ b.faults ∷ []
+  pub bytes : keeper.bytes ≡ a.content ∷ b.content ∷ []
   pub held : (x y : List ℕ) → a.content ≡ Some x → b.content ≡ Some y → keeper.held ≡ Some (folder x y)
 
 -- each pair of images of the disks is an image of the keeper

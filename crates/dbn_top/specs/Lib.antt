@@ -1,8 +1,10 @@
 pub mod Calls
+pub mod Complete
 pub mod Crashes
 pub mod Demos
 pub mod Due
 pub mod Endings
+pub mod Groups
 pub mod Keepers
 pub mod Starts
 pub mod Statuses

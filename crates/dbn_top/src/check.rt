@@ -31,7 +31,7 @@ pub(crate) fn run_check<N: Source, K: Sink>(
     ensures never_disk { result ≢ Status.DiskFault }
 {
     match read_accepted(alloc, net, out, limits) {
-        Ok(_) => say(out, b"accepted\n".as_slice(), Status::Done),
+        Ok(_accepted) => say(out, b"accepted\n".as_slice(), Status::Done),
         Err(status) => status,
     }
 }

@@ -19,6 +19,9 @@ mod verb;
 mod words;
 
 pub use ended::Ended;
-pub use laws::calls_without_a_fault_end_as_declared;
+pub use laws::{
+    a_crash_leaves_a_front_of_the_groups, a_run_fires_its_groups, calls_in_order_are_done,
+    calls_without_a_fault_end_as_declared, groups_fire_in_one_way,
+};
 pub use status::Status;
 pub use top::dbnet;

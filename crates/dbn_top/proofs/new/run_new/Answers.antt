@@ -1,13 +1,15 @@
-use Rattle.std.proofs.Common.{◌≡◌, List, ℕ, Bool, Option, Some, None, rules, refl, sym, ap, subst, ◌∙◌}
+use Rattle.std.proofs.Common.{◌≡◌, List, ℕ, Bool, Option, Some, None, rules, refl, sym, ap, subst, ◌∙◌, arith}
 use Rattle.std.proofs.lemmas.Bool.{true≢false}
+use Rattle.dbn_model.specs.Causes.{Rose}
 use Rattle.dbn_keeper.specs.Creating.{is_made}
 use Rattle.dbn_keeper.specs.Files.{folder}
 use Rattle.dbn_store.specs.States.{Situation, situation}
 use Rattle.dbn_top.specs.Calls.{stream, device}
 use Rattle.dbn_top.specs.Crashes.{IsNew}
 use Rattle.dbn_top.specs.Starts.{is_there, accepted_in}
+use Rattle.dbn_top.specs.declared.verb.Verb.TheVariants as verbs
 use Rattle.dbn_top.proofs.Tops.{nothing_new, same_files, kept_stays, made_of_spared, made_of_kept}
-use Rattle.dbn_top.proofs.Verbs.{new_ends, refused_new, moved_writes, same_situation}
+use Rattle.dbn_top.proofs.Verbs.{new_ends, refused_new, new_kind, net_keeps, moved_writes, same_situation}
 use Rattle.dbn_top.proofs.new.run_new.Goals as goal
 
 pub returns-in-Ok-clause-ends : goal.returns-in-Ok-clause-ends
@@ -15,7 +17,7 @@ returns-in-Ok-clause-ends g c commands same given told =
     let accepted = c.in-Ok.ensures.accepted given.net (told.net refl) in
     let there = ap (λ (o : Option Situation). is_there o) accepted.1 in
     new_ends c.make_store-status.result c.args.limits.now _ commands (stream (g.K.Sink.taken c.args.out.now) (g.K.Sink.taken c.make_store-status.new.out) (g.K.Sink.faults c.args.out.now) (g.K.Sink.faults c.make_store-status.new.out)) given
-    (situation c.in-Ok.accepted.net c.in-Ok.accepted.at) accepted.1 c.in-Ok.ensures.end (search rules)
+    (situation c.in-Ok.accepted.net c.in-Ok.accepted.at) accepted.1 c.in-Ok.ensures.end (λ e. subst (λ (n : ℕ). Rose n (g.K.Sink.faults c.make_store-status.new.out)) c.in-Ok.ensures.quiet.0 (c.make_store-status.ensures.write e))
     (moved_writes c.make_store-status.result _ _ _ _ _ _ accepted.2 (c.make_store-status.ensures.writes given.a given.b (told.a_told there) (told.b_told there)) (g.K.Sink.faults c.args.out.now)) c.make_store-status.ensures.never.2 same
 
 pub returns-in-Ok-clause-crash : goal.returns-in-Ok-clause-crash
@@ -35,6 +37,14 @@ returns-in-Ok-clause-spares g c commands same given told =
       stays = λ none. let both = kept (made_of_spared _ _ there none) in kept_stays _ _ _ _ both.0 both.1;
       bytes = λ all. kept (made_of_kept _ _ there all);
     }
+
+pub returns-in-Ok-clause-kind : goal.returns-in-Ok-clause-kind
+returns-in-Ok-clause-kind g c = new_kind c.make_store-status.result c.make_store-status.ensures.never.0
+
+pub returns-in-Ok-clause-keeps : goal.returns-in-Ok-clause-keeps
+returns-in-Ok-clause-keeps g c commands same =
+    net_keeps c.make_store-status.result (Some verbs.New) c.args.limits.now _ commands _ c.in-Ok.ensures.calm (λ never. c.make_store-status.ensures.calm never ∙ c.in-Ok.ensures.quiet.0) c.read_accepted.ensures.told.0
+    (c.make_store-status.ensures.told ∙ c.read_accepted.ensures.told.1) (omega (arith, c.read_accepted.ensures.later.1, c.make_store-status.ensures.later)) c.read_accepted.ensures.few same
 
 pub returns-in-Err-clause-ends : goal.returns-in-Err-clause-ends
 returns-in-Err-clause-ends g c commands same given told =

@@ -9,8 +9,8 @@ use Rattle.dbn_top.specs.Keepers.{status_of_end}
 use Rattle.dbn_top.specs.Starts.{Found, run_in, is_there, terms_of}
 use Rattle.std.proofs.lemmas.Bool.{true≢false}
 use Rattle.dbn_top.proofs.Keepers.{keeps_from, rose_from}
-use Rattle.dbn_top.proofs.Runs.{writes_of, breaks_of, is_read, is_write, is_disk, is_done, takes_few}
-use Rattle.dbn_top.proofs.Tops.{run_crash, run_ends, refused_ends, refused_crash, run_kind, run_keeps, runs_there, not_store}
+use Rattle.dbn_top.proofs.Runs.{never_of_start, writes_of, breaks_of, is_read, is_write, is_disk, is_done, takes_few}
+use Rattle.dbn_top.proofs.Tops.{run_crash, run_ends, refused_ends, refused_crash, run_kind, run_touches, run_disks, run_keeps, runs_there, not_store}
 use Rattle.dbn_top.proofs.run.run_run.Goals as goal
 
 pub returns-in-Ok-clause-crash : goal.returns-in-Ok-clause-crash
@@ -89,6 +89,23 @@ returns-in-Ok-clause-keeps g c = λ net same.
     (stream (g.K.Sink.taken c.args.out.now) (g.K.Sink.taken c.serve-served.new.out) (g.K.Sink.faults c.args.out.now) (g.K.Sink.faults c.serve-served.new.out))
     (λ never. c.serve-served.ensures.source_count.kept (λ e. never (is ∙ ap status_of_end e))) (λ never. c.serve-served.ensures.sink_count.kept (λ e. never (is ∙ ap status_of_end e)))
     c.serve-served.ensures.told (c.serve-served.ensures.source_count.later, c.serve-served.ensures.sink_count.later) (takes_few c.serve-served.result.end _ _ c.serve-served.ensures.takes) same
+
+pub returns-in-Ok-clause-kind : goal.returns-in-Ok-clause-kind
+returns-in-Ok-clause-kind g c =
+    let is = c.status_of-status.ensures in
+    let never = never_of_start c.serve-served.result.end in
+    run_kind c.args.every c.status_of-status.result (λ e. never.usage (sym is ∙ e)) (λ e. never.net (sym is ∙ e))
+
+pub returns-in-Ok-clause-touches : goal.returns-in-Ok-clause-touches
+returns-in-Ok-clause-touches g c = λ net same.
+    let is = c.status_of-status.ensures in
+    run_touches c.status_of-status.result c.args.limits.now c.args.every net _ _ (λ e. c.serve-served.ensures.source_count.failed (is_read _ (sym is ∙ e))) (λ e. c.serve-served.ensures.sink_count.failed (is_write _ (sym is ∙ e))) same
+
+pub returns-in-Ok-clause-disks : goal.returns-in-Ok-clause-disks
+returns-in-Ok-clause-disks g c =
+    let is = c.status_of-status.ensures in
+    run_disks c.status_of-status.result c.args.every (device (g.D.Disk.state c.args.a) (g.D.Disk.state c.disks_of-a.result.0)) (device (g.D.Disk.state c.args.b) (g.D.Disk.state c.disks_of-a.result.1))
+    (λ e. rose_from _ _ (g.D.Disk.state c.args.a) (g.D.Disk.state c.args.b) (g.D.Disk.state c.disks_of-a.result.0) (g.D.Disk.state c.disks_of-a.result.1) c.in-Ok.ensures.over c.disks_of-a.ensures.over (c.serve-served.ensures.disk_counts.failed (is_disk _ (sym is ∙ e))))
 
 pub returns-in-Err-clause-spares : goal.returns-in-Err-clause-spares
 returns-in-Err-clause-spares g c = λ net same given told. record {
