@@ -1,6 +1,7 @@
 pub mod AtomLaws
 pub mod AtomMade
 pub mod ColumnLaws
+pub mod ComparingLaws
 pub mod ComparisonMade
 pub mod FormsReady
 pub mod FormulaLaws
@@ -9,6 +10,7 @@ pub mod NodeLaws
 pub mod Places
 pub mod RoomLaws
 pub mod Rows
+pub mod ScanLaws
 pub mod StepLaws
 pub mod StepsMade
 pub mod TestLaws

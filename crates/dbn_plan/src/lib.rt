@@ -3,7 +3,9 @@
 
 mod atom;
 mod columns;
+mod comparison;
 mod context;
 mod labels;
+mod scans;
 mod sources;
 mod steps;

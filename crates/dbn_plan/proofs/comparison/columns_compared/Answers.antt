@@ -1,0 +1,25 @@
+use Rattle.std.proofs.Common.{◌≡◌, ◌++◌, ◌∷◌, [], ap, sym, ◌∙◌, Some}
+use Rattle.std.specs.Prelude.{slice_get}
+use Rattle.dbn_nodes.specs.declared.node.ColTest.TheVariants as test
+use Rattle.dbn_plan.proofs.ComparingLaws.{columns_fit}
+use Rattle.dbn_plan.proofs.ComparisonMade.{columns_made}
+use Rattle.dbn_plan.proofs.comparison.columns_compared.Goals as goal
+
+pub selected-requires-clause-there : goal.selected-requires-clause-there
+selected-requires-clause-there g c = c.requires.placed.there
+
+pub selected-requires-clause-fits : goal.selected-requires-clause-fits
+selected-requires-clause-fits g c =
+    columns_fit c.args.network.now c.args.at.now.node c.args.at.now.labels c.requires.placed c.args.cmp c.args.left.now c.args.right.now c.column_of.result c.column_of-2.result c.push.new.self
+    (ap (λ ls. slice_get ls c.column_of.result) (sym c.as_slice.ensures) ∙ c.column_of.ensures)
+    (ap (λ ls. slice_get ls c.column_of-2.result) (sym c.as_slice-2.ensures) ∙ c.column_of-2.ensures)
+    (c.in_ok-push.ensures.ok ∙ ap (λ ts. ts ++ test.Columns c.args.cmp c.column_of.result c.column_of-2.result ∷ []) c.new-tests.ensures)
+
+pub returns : goal.returns
+returns g c =
+    columns_made g.P.Cell.Ord.cmp g.P.Cell.Cell.int_of (g.P.Coder.cell_of c.args._coder.now) c.args.cmp c.args.left.now c.args.right.now c.args.network.now c.selected.new.network c.args.at.now.node c.args.at.now.labels
+    c.column_of.result c.column_of-2.result c.push.new.self c.in_ok-made.made c.requires.placed
+    (ap (λ ls. slice_get ls c.column_of.result) (sym c.as_slice.ensures) ∙ c.column_of.ensures)
+    (ap (λ ls. slice_get ls c.column_of-2.result) (sym c.as_slice-2.ensures) ∙ c.column_of-2.ensures)
+    (c.in_ok-push.ensures.ok ∙ ap (λ ts. ts ++ test.Columns c.args.cmp c.column_of.result c.column_of-2.result ∷ []) c.new-tests.ensures)
+    c.in_ok-made.ensures
