@@ -1,13 +1,13 @@
 -- The nodes that `not`, `exists` and `or` add.
-use Rattle.std.proofs.Common.{◌≡◌, ◌<◌, ◌+◌, ◌*◌, ◌≤◌, ℕ, ℤ, max, zero, suc, ◌⊎◌, inl, inr, ⊎_elim, Bool, true, false, cond, not, ◌&&◌, ◌||◌, List, [], ◌∷◌, ◌++◌, map, refl, ap, sym, ◌∙◌, subst, Option, Some, None, length, arith}
-use Rattle.std.specs.Prelude.{if◌then◌else◌}
+use Rattle.std.proofs.Common.{◌≡◌, ◌<◌, ◌+◌, ◌*◌, ◌≤◌, ℕ, ℤ, max, zero, suc, ◌⊎◌, inl, inr, ⊎_elim, Bool, true, false, cond, not, ◌&&◌, ◌||◌, List, [], ◌∷◌, ◌++◌, map, refl, ap, sym, ◌∙◌, subst, Option, length, arith}
+use Rattle.std.specs.Prelude.{◌==◌}
+use Rattle.std.proofs.Math.Dec.{eqb-suc-zero}
 use Rattle.std.specs.declared.cmp.Ordering.{Ordering}
-use Rattle.std.specs.List.{list_any, list_all, filter, flat_map}
-use Rattle.std.proofs.lemmas.Bool.{true≢false, and_parts, and_from, not-true}
+use Rattle.std.specs.List.{list_any, list_all, flat_map}
+use Rattle.std.proofs.lemmas.Bool.{true≢false, and_parts, not-true}
 use Rattle.std.proofs.lemmas.List.{append_assoc}
 use Rattle.dbn_value.specs.Members.{In}
-use Rattle.dbn_value.specs.Coding.{IsCoding}
-use Rattle.dbn_value.proofs.MemberLaws.{all_at, in_append, append_left, append_right, in_filter, filter_in, in_flat, flat_in, fails_at}
+use Rattle.dbn_value.proofs.MemberLaws.{all_at, in_append, append_left, append_right, in_flat, flat_in, fails_at}
 use Rattle.dbn_value.specs.declared.value.Value.{Value}
 use Rattle.dbn_value.specs.declared.term.Var.{Var}
 use Rattle.dbn_value.specs.declared.term.Term.{Term}
@@ -30,22 +30,21 @@ use Rattle.dbn_formula.proofs.ConstantsLaws.{constants_or}
 use Rattle.dbn_formula.proofs.TypingLaws.{types_or}
 use Rattle.dbn_formula.proofs.DistinctLaws.{distinct_or}
 use Rattle.dbn_formula.proofs.SafeLaws.{in_order_not, in_order_exists, in_order_or}
-use Rattle.dbn_formula.proofs.VariableLaws.{in_of_is, is_of_in, in_unhidden, unhidden_in, in_firsts, firsts_in}
+use Rattle.dbn_formula.proofs.VariableLaws.{in_of_is, in_unhidden, unhidden_in, in_firsts, firsts_in}
 use Rattle.dbn_formula.proofs.OrderOfParts.{Alike}
-use Rattle.dbn_formula.proofs.Arranged.{alike_append, alike_self, alike_then, alike_same}
-use Rattle.dbn_nodes.specs.declared.node.Node.{Node}
+use Rattle.dbn_formula.proofs.Arranged.{alike_then, alike_same}
 use Rattle.dbn_nodes.specs.declared.node.Node.TheVariants as node
-use Rattle.dbn_nodes.specs.Values.{without, either}
+use Rattle.dbn_nodes.specs.Values.{either}
 use Rattle.dbn_network.specs.Values.{val}
-use Rattle.dbn_network.specs.States.{State, Fits, width_at, state_widths, with_node}
+use Rattle.dbn_network.specs.States.{State, Fits, with_node}
 use Rattle.dbn_plan.specs.Meaning.{Means, LooksAt, vars_of}
 use Rattle.dbn_plan.specs.Columns.{with_vars}
-use Rattle.dbn_plan.specs.Compiled.{World, Stands, Fit, Compiled}
+use Rattle.dbn_plan.specs.Compiled.{World, Stands, Fit}
 use Rattle.dbn_plan.specs.Making.{IsOpen, Grown, Placed, Labels, Made, Shown, NoneMade, RoomMade, SomeMade, WithVars, rate}
 use Rattle.dbn_plan.proofs.NodeLaws.{union_means, means_alike}
 use Rattle.dbn_plan.proofs.FormulaLaws.{stands_later, stands_from, stands_inside, not_means, not_fit, some_fit, some_shown, and_either}
-use Rattle.dbn_plan.proofs.StepLaws.{grown_then, grown_none, placed_after, open_after, grown_at, one_more_node, placed_at, val_at, val_grown, rate_enough}
-use Rattle.dbn_plan.proofs.StepsMade.{append_nil, diff_fits}
+use Rattle.dbn_plan.proofs.StepLaws.{grown_then, placed_after, grown_at, one_more_node, placed_at, val_at, val_grown, rate_enough}
+use Rattle.dbn_plan.proofs.StepsMade.{append_nil}
 
 unbound_outside : (vars : TypedVars) (f : Formula) (bound : List Var) (x : Var) → safe_in_order (Exists vars f) bound ≡ true → In x bound → binds vars x ≡ false
 unbound_outside vars f bound x safe here =
@@ -395,3 +394,11 @@ chosen_there vars f labels inner wanted own step a at =
     let within : In x (occurrences f) = in_firsts x (occurrences f) (in_unhidden vars x (firsts (occurrences f)) new_one.2).0 in
     subst (λ b. In b inner) (sym new_one.1) (var_label inner x (step.bound.back x (append_right x (vars_of labels) (occurrences f) within))))
     (own.only a at)
+
+pub none_there : {A : Type 0} (xs : List A) (b : Bool) → b ≡ (length xs == 0) → b ≡ true → xs ≡ []
+none_there [] b is e = refl
+none_there (x ∷ xs) b is e = absurd (true≢false (sym e ∙ is ∙ eqb-suc-zero (length xs)))
+
+pub some_there : {A : Type 0} (xs : List A) (b : Bool) → b ≡ (length xs == 0) → b ≡ false → 0 < length xs
+some_there [] b is e = absurd (true≢false (sym is ∙ e))
+some_there (x ∷ xs) b is e = omega arith

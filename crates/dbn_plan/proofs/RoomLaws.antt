@@ -1,14 +1,14 @@
 -- Whether a type has a value: where the formula writes one, or some relation with such a column has a row.
-use Rattle.std.proofs.Common.{◌≡◌, ◌<◌, ◌+◌, ◌*◌, ◌≤◌, ℕ, ℤ, zero, suc, ◌⊎◌, inl, inr, ⊎_elim, Bool, true, false, not, ◌&&◌, ◌||◌, List, [], ◌∷◌, ◌++◌, map, take, refl, ap, sym, ◌∙◌, subst, Option, Some, None, length, arith}
+use Rattle.std.proofs.Common.{◌≡◌, ◌<◌, ◌+◌, ◌*◌, ◌≤◌, ℕ, ℤ, zero, suc, ◌⊎◌, inl, ⊎_elim, Bool, true, false, not, ◌&&◌, ◌||◌, List, [], ◌∷◌, ◌++◌, map, take, refl, ap, sym, ◌∙◌, subst, Option, Some, length, arith}
 use Rattle.std.specs.Prelude.{slice_get, slice_index_or}
 use Rattle.std.specs.declared.cmp.Ordering.{Ordering}
 use Rattle.std.specs.Cmp.{both_ways}
-use Rattle.std.specs.List.{list_any, list_all, filter}
+use Rattle.std.specs.List.{list_all}
 use Rattle.std.proofs.lemmas.Bool.{true≢false, and_parts, and_from, or_cases, or_left, or_right, not-true, not_from_false, false_from_ne_true, cases_lt}
 use Rattle.std.proofs.lemmas.List.{take_more}
 use Rattle.dbn_value.specs.Members.{In}
 use Rattle.dbn_value.specs.Picked.{picked}
-use Rattle.dbn_value.proofs.MemberLaws.{any_in, in_any, all_from}
+use Rattle.dbn_value.proofs.MemberLaws.{any_in, in_any}
 use Rattle.dbn_value.proofs.AscendingLaws.{in_images, images_in}
 use Rattle.std.specs.Cmp.Lexicographic.{lists_total}
 use Rattle.std.specs.FinMap.{slice_cmp-IsAntisymmetric}
@@ -20,18 +20,16 @@ use Rattle.dbn_value.specs.declared.term.Term.{Term}
 use Rattle.dbn_formula.specs.Variables.{TypedVars, is_in, firsts}
 use Rattle.dbn_formula.specs.Holds.{Env, Domain, Instance}
 use Rattle.dbn_formula.specs.Free.{occurrences}
-use Rattle.dbn_formula.specs.Size.{total}
 use Rattle.dbn_formula.specs.Typing.{Shapes}
 use Rattle.dbn_formula.specs.Solve.{is_empty}
 use Rattle.dbn_formula.specs.Ready.{RowIn}
 use Rattle.dbn_formula.specs.declared.formula.Formula.{Formula}
 use Rattle.dbn_formula.proofs.VariableLaws.{type_same, type_itself, in_of_is, is_of_in, in_firsts, firsts_in}
 use Rattle.dbn_formula.proofs.Solved.{empty_is}
-use Rattle.dbn_nodes.specs.declared.node.Node.{Node}
 use Rattle.dbn_nodes.specs.declared.node.Node.TheVariants as node
 use Rattle.dbn_nodes.specs.Values.{either, projected}
 use Rattle.dbn_network.specs.Values.{val}
-use Rattle.dbn_network.specs.States.{State, with_node, feed_widths, state_widths, width_at}
+use Rattle.dbn_network.specs.States.{State, Fits, with_node, feed_widths, state_widths, width_at}
 use Rattle.dbn_plan.specs.declared.sources.Sources.{Sources}
 use Rattle.dbn_plan.specs.Meaning.{Means, LooksAt, vars_of}
 use Rattle.dbn_plan.specs.Compiled.{World}
@@ -39,7 +37,7 @@ use Rattle.dbn_plan.specs.Making.{IsOpen, Grown, Placed, AreSources, ScanMade, J
 use Rattle.dbn_plan.specs.Filling.{has_type, has_value, any_row, RowedMade, AnyMade, MoreMade}
 use Rattle.dbn_plan.proofs.Places.{val_unit, width_unit, there_small}
 use Rattle.dbn_plan.proofs.NodeLaws.{means_alike, union_means, unit_means}
-use Rattle.dbn_plan.proofs.StepLaws.{grown_none, grown_then, grown_at, one_more_node, open_after, placed_after, sources_after, placed_at, val_at, val_grown, rate_enough}
+use Rattle.dbn_plan.proofs.StepLaws.{grown_none, grown_then, grown_at, one_more_node, placed_after, placed_at, val_at, val_grown, rate_enough}
 use Rattle.dbn_plan.proofs.StepsMade.{append_nil}
 use Rattle.dbn_plan.proofs.AtomMade.{scan_rows}
 
@@ -52,6 +50,9 @@ unit_placed s sources i labels are e_i e_labels = record {
 }
 
 -- ---- a row of one relation
+
+pub rowed_fits : {C : Type 0} (old one : State C) (rel scan : ℕ) (cols : List ℕ) → ScanMade old one rel scan → cols ≡ [] → Fits one (node.Project scan cols)
+rowed_fits old one rel scan cols first e = record { left = there_small one.nodes scan (node.Scan rel) first.is; right = tt; names = λ c here. absurd (subst (In c) e here) }
 
 module _ {C : Type 0} (R : C → C → Ordering) (int_of : C → Option ℤ) (cell_of : Value → Option C) (consts : List Value) where
   pub rowed_made : (rel : ℕ) (old one new : State C) (scan : ℕ) (cols : List ℕ) (made : ℕ) → IsOpen old → rel < length old.rels → ScanMade old one rel scan → cols ≡ []
@@ -338,3 +339,13 @@ module _ {C : Type 0} (R : C → C → Ordering) (int_of : C → Option ℤ) (ce
       (λ there. true≢false (sym (is_of_in y.0 (firsts (occurrences f)) (firsts_in y.0 (occurrences f) (in_of_is y.0 (occurrences f) there))) ∙ is)) in
       means_alike w.coding.total w.coding.exact w.K w.coding.one (val R made new.nodes w.feeds) labels (λ t. q t && not (is_empty (w.dom y.1))) (λ t. q t && (is_in y.0 (occurrences f) || not (is_empty (w.dom y.1))))
       (λ t. ap (λ b. q t && (b || not (is_empty (w.dom y.1)))) (sym none)) (filled.means w q looks means)))
+
+  -- the variables so far, and one more
+  pub room_then : (old mid new : State C) (i : ℕ) (labels : List Term) (vars more : TypedVars) (y : Var × ColType) (f : Formula) (before made : ℕ) → more ≡ vars ++ y ∷ [] → RoomMade R int_of cell_of consts vars f old mid i labels before
+      → RoomMade R int_of cell_of consts (y ∷ []) f mid new before labels made → RoomMade R int_of cell_of consts more f old new i labels made
+  room_then old mid new i labels vars more y f before made e so step =
+      subst (λ vs. RoomMade R int_of cell_of consts vs f old new i labels made) (sym e)
+      (room_more old mid new i labels vars y f before made so step.grown (let a = step.few in omega (arith, a)) step.placed
+      (λ w q looks means.
+      means_alike w.coding.total w.coding.exact w.K w.coding.one (val R made new.nodes w.feeds) labels (λ t. q t && list_all (λ z. is_in z.0 (occurrences f) || not (is_empty (w.dom z.1))) (y ∷ []))
+      (λ t. q t && (is_in y.0 (occurrences f) || not (is_empty (w.dom y.1)))) (λ t. ap (λ b. q t && b) (sym (and_is (is_in y.0 (occurrences f) || not (is_empty (w.dom y.1))) true refl))) (step.means w q looks means)))

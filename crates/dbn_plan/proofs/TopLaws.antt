@@ -1,8 +1,8 @@
 -- From the rows of a compiled formula to its answers.
 use Rattle.std.proofs.Common.{◌≡◌, ◌<◌, ◌+◌, ◌*◌, ◌≤◌, ℕ, zero, suc, ℤ, ◌⊎◌, inl, inr, ⊎_elim, Bool, true, false, not, ◌&&◌, ◌||◌, List, [], ◌∷◌, ◌++◌, map, refl, ap, sym, ◌∙◌, subst, Option, Some, None, length, arith}
-use Rattle.std.specs.Prelude.{slice_get, slice_index_or, if◌then◌else◌}
+use Rattle.std.specs.Prelude.{slice_get, slice_index_or}
 use Rattle.std.specs.declared.cmp.Ordering.{Ordering}
-use Rattle.std.specs.List.{list_any, list_all, filter, flat_map}
+use Rattle.std.specs.List.{list_all, filter, flat_map}
 use Rattle.std.specs.BTreeMap.{is_at, get}
 use Rattle.std.specs.BTreeMap.{BTreeMap}
 use Rattle.std.specs.Option.{unwrap_or}
@@ -10,10 +10,9 @@ use Rattle.std.specs.Cmp.{Equal-is}
 use Rattle.std.specs.FinMap.{nat_cmp-IsAntisymmetric}
 use Rattle.std.specs.Map.{lookup as lookup_in}
 use Rattle.std.specs.Ordering.{nat_cmp}
-use Rattle.std.proofs.lemmas.Bool.{true≢false, and_parts, and_from}
 use Rattle.dbn_value.specs.Members.{In}
 use Rattle.dbn_value.specs.Coding.{Extends, IsCoding}
-use Rattle.dbn_value.proofs.MemberLaws.{all_at, in_append, append_left, append_right, in_filter, filter_in, in_flat, flat_in, at_in, in_map, map_in}
+use Rattle.dbn_value.proofs.MemberLaws.{in_append, append_right, in_filter, filter_in, in_flat, at_in, in_map, map_in}
 use Rattle.dbn_value.proofs.AscendingLaws.{in_ascending, ascending_in}
 use Rattle.dbn_value.specs.Order.{value_cmp, value_type, value_total, exact_values}
 use Rattle.dbn_value.specs.declared.value.Value.{Value}
@@ -22,12 +21,11 @@ use Rattle.dbn_value.specs.declared.term.Var.{Var}
 use Rattle.dbn_value.specs.declared.term.Term.{Term}
 use Rattle.dbn_value.specs.declared.term.Term.TheVariants as term
 use Rattle.dbn_formula.specs.Variables.{TypedVars, type_eq, binds}
-use Rattle.dbn_formula.specs.Holds.{Env, Domain, Instance, lookup, value_of, holds_over}
+use Rattle.dbn_formula.specs.Holds.{Env, Instance, lookup, value_of, holds_over}
 use Rattle.dbn_formula.specs.Free.{occurrences}
 use Rattle.dbn_formula.specs.Answers.{constants, domain, values_in, answers}
-use Rattle.dbn_formula.specs.Typing.{Shapes, type_fault, arity_fits, types_fit, all_bound}
+use Rattle.dbn_formula.specs.Typing.{Shapes, arity_fits, types_fit, all_bound}
 use Rattle.dbn_formula.specs.Solutions.{solvable, HasShape, HasShapes, AcceptsQuery}
-use Rattle.dbn_formula.specs.Ready.{AreValued, RowsIn, ValuesIn}
 use Rattle.dbn_formula.specs.declared.formula.Formula.{Formula}
 use Rattle.dbn_formula.proofs.SolutionLaws.{rows_in, solvable_free, solvable_constants, is_ready, answer_holds, holds_answer}
 use Rattle.dbn_formula.proofs.ArityKept.{solvable_arity}
@@ -38,13 +36,12 @@ use Rattle.std.proofs.Math.Nat.{mul-le-mul_left}
 use Rattle.dbn_formula.proofs.VariableLaws.{type_same, type_itself, in_bound}
 use Rattle.dbn_nodes.specs.declared.node.Node.{Node}
 use Rattle.dbn_network.specs.Values.{val}
-use Rattle.dbn_plan.specs.Meaning.{Holds, Gives, IsRowOf, Means, LooksAt, vars_of}
+use Rattle.dbn_plan.specs.Meaning.{Holds, Means, LooksAt, vars_of}
 use Rattle.dbn_plan.specs.Compiled.{World, Stands, Fit}
 use Rattle.dbn_plan.specs.declared.sources.Sources.{Sources}
 use Rattle.dbn_plan.specs.Answering.{SameRows, var_labels, AnswersAt, IsKept, Planned, Says, Rooted}
 use Rattle.dbn_plan.specs.Columns.{HaveCells}
-use Rattle.dbn_plan.specs.Making.{Grown, Placed, Made, Shown, RoomMade, IsReady, IsProjection, Sourced, AreSources, AreScans, ScansMade, columns, rate}
-use Rattle.dbn_plan.specs.Compiled.{Compiled}
+use Rattle.dbn_plan.specs.Making.{Grown, Made, Shown, RoomMade, IsReady, IsProjection, Sourced, AreSources, AreScans, ScansMade, columns, rate}
 use Rattle.dbn_plan.proofs.NodeLaws.{unit_means}
 use Rattle.dbn_plan.proofs.MadeLaws.{var_label}
 use Rattle.dbn_plan.proofs.FormulaLaws.{stands_inside, some_fit, some_shown}
@@ -57,13 +54,14 @@ use Rattle.dbn_formula.proofs.FreeLaws.{occurrences_exists}
 use Rattle.dbn_formula.proofs.SizeLaws.{size_exists}
 use Rattle.dbn_formula.proofs.VariableLaws.{in_unhidden}
 use Rattle.std.proofs.Common.{max, cond}
+use Rattle.dbn_plan.proofs.FormsReady.{exists_ready}
 use Rattle.dbn_plan.proofs.StepLaws.{grown_none, grown_then, grown_at, one_more_node, rate_enough}
 use Rattle.dbn_formula.specs.Safe.{safe_in_order}
 use Rattle.dbn_formula.specs.Apart.{renamed}
 use Rattle.dbn_formula.specs.Normal.{normal}
 use Rattle.dbn_formula.proofs.Arranged.{arranged_in_order}
 use Rattle.dbn_formula.proofs.RenameApart.{renamed_apart}
-use Rattle.dbn_network.specs.States.{State, with_node}
+use Rattle.dbn_network.specs.States.{State, Fits, with_node}
 use Rattle.dbn_nodes.specs.declared.node.Node.TheVariants as node
 use Rattle.dbn_plan.proofs.Places.{val_unit, get_or_there, there_small, there_last, there_stays}
 
@@ -299,6 +297,9 @@ few_nodes rels f form old new e few =
 
 -- ---- scans
 
+pub unit_fits : {C : Type 0} (s : State C) → Fits s node.Unit
+unit_fits s = record { left = tt; right = tt; names = tt }
+
 pub no_scans : {C : Type 0} (s : State C) (scans : BTreeMap ℕ ℕ) → scans.entries ≡ [] → AreScans s scans
 no_scans s scans e_scans rel i e = absurd (none_some i (sym (ap (λ es. lookup_in (is_at (nat_cmp rel)) es) e_scans) ∙ e))
   where
@@ -347,3 +348,28 @@ sourced_made old one new sources rels n e_one e_unit small scans = record {
     scans = scans.are;
   };
 }
+
+-- ---- cells for what is written
+
+module _ {C : Type 0} where
+  pub no_cells : (K : Value → Option C) (values : List Value) → values ≡ [] → HaveCells K values
+  no_cells K values e v at = absurd (subst (In v) e at)
+
+  pub one_more_cell : (old mid new : Value → Option C) (before more : List Value) (v : Value) (c : C) → more ≡ before ++ v ∷ [] → Extends old mid × HaveCells mid before → Extends mid new → new v ≡ Some c
+      → Extends old new × HaveCells new more
+  one_more_cell old mid new before more v c e so grows is = (
+    λ u d at. grows u d (so.0 u d at),
+    λ u at.
+        ⊎_elim (λ here. let found = so.1 u here in (found.0, grows u found.0 found.1))
+        (λ there. ⊎_elim (λ same. (c, ap new same ∙ is)) (λ none. absurd none) there)
+        (in_append u before (v ∷ []) (subst (In u) e at)),
+  )
+
+-- ---- behind the unit
+
+module _ {C : Type 0} (cell_of : Value → Option C) (rels : Shapes) where
+  pub root_ready : (form : Formula) (labels : List Term) → labels ≡ [] → IsReady cell_of rels [] form → IsReady cell_of rels (vars_of labels) form
+  root_ready form labels e ready = subst (λ ls. IsReady cell_of rels (vars_of ls) form) (sym e) ready
+
+  pub body_ready : (form : Formula) (vars : TypedVars) (body : Formula) (labels : List Term) → form ≡ Exists vars body → labels ≡ [] → IsReady cell_of rels [] form → IsReady cell_of rels (vars_of labels) body
+  body_ready form vars body labels e_form e ready = root_ready body labels e (exists_ready cell_of rels [] vars body (subst (IsReady cell_of rels []) e_form ready))

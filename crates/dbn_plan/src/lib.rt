@@ -5,7 +5,12 @@ mod atom;
 mod columns;
 mod comparison;
 mod context;
+mod forms;
 mod labels;
+mod room;
 mod scans;
 mod sources;
 mod steps;
+mod top;
+
+pub use top::compile;

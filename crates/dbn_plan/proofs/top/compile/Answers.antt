@@ -1,0 +1,25 @@
+use Rattle.std.proofs.Common.{◌∙◌, refl, subst, length}
+use Rattle.dbn_plan.specs.Columns.{HaveCells}
+use Rattle.dbn_plan.proofs.TopLaws.{query_ready, query_occurs, planned_answers, projection_there, projection_kept, few_nodes}
+use Rattle.dbn_plan.proofs.top.compile.Goals as goal
+
+pub plan-requires-clause-ready : goal.plan-requires-clause-ready
+plan-requires-clause-ready g c =
+    query_ready c.args.network.now.rels c.args.vars.now c.args.f.now c.requires.accepted (g.P.Coder.cell_of c.put_all.new.coder) c.in_ok-form.form c.in_ok-form.ensures
+    (subst (HaveCells (g.P.Coder.cell_of c.put_all.new.coder)) (c.as_slice.ensures ∙ c.in_ok-consts.ensures) c.in_ok-put_all.ensures.cells)
+
+pub plan-requires-clause-occurring : goal.plan-requires-clause-occurring
+plan-requires-clause-occurring g c = query_occurs c.args.network.now.rels c.args.vars.now c.args.f.now c.requires.accepted c.in_ok-form.form c.in_ok-form.ensures
+
+pub returns-clause-answers : goal.returns-clause-answers
+returns-clause-answers g c =
+    planned_answers (g.P.Coder.cell_of c.put_all.new.coder) c.args.network.now.rels c.args.vars.now c.args.f.now c.in_ok-form.form c.args.network.now c.plan.new.network c.in_ok-node.node c.requires.accepted refl c.in_ok-form.ensures c.in_ok-node.ensures
+
+pub returns-clause-range : goal.returns-clause-range
+returns-clause-range g c = projection_there c.plan.new.network c.in_ok-node.node c.in_ok-node.ensures.kept
+
+pub returns-clause-kept : goal.returns-clause-kept
+returns-clause-kept g c = projection_kept c.plan.new.network c.in_ok-node.node c.in_ok-node.ensures.kept
+
+pub returns-clause-few : goal.returns-clause-few
+returns-clause-few g c = few_nodes c.args.network.now.rels c.args.f.now c.in_ok-form.form (length c.args.network.now.nodes) (length c.plan.new.network.nodes) c.in_ok-form.ensures c.in_ok-node.ensures.few

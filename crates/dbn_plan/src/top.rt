@@ -1,0 +1,188 @@
+ghost use Rattle.std.specs.Prelude.{◌≡◌, ◌<◌, ◌≤◌, ◌+◌, ◌*◌, [], true, OnOk, IfOk, length, slice_index_or};
+ghost use Rattle.dbn_value.specs.Members.{In};
+ghost use Rattle.dbn_value.specs.Coding.{Extends};
+ghost use Rattle.dbn_value.specs.declared.term.Var.{Var as OfVar};
+ghost use Rattle.dbn_formula.specs.declared.formula.Formula.{Formula};
+ghost use Rattle.dbn_formula.specs.Answers.{constants};
+ghost use Rattle.dbn_formula.specs.Free.{occurrences};
+ghost use Rattle.dbn_formula.specs.Size.{size};
+ghost use Rattle.dbn_formula.specs.Solutions.{AcceptsQuery};
+ghost use Rattle.dbn_formula.specs.Variables.{binds};
+ghost use Rattle.dbn_nodes.specs.declared.node.Node.{Node as NodeOf};
+ghost use Rattle.dbn_plan.specs.Columns.{HaveCells};
+ghost use Rattle.dbn_plan.specs.Making.{IsOpen, Grown, AreSources, IsReady, Sourced, columns};
+ghost use Rattle.dbn_plan.specs.Answering.{AnswersAt, IsKept, Planned, Rooted};
+
+use super::context::Context;
+use super::forms::compile_at;
+use super::labels::labels_of;
+use super::room::with_room;
+use super::scans::{add_relations, scan_each};
+use super::sources::Sources;
+use super::steps::projected;
+use dbn_formula::{Formula, constants, solvable};
+use dbn_network::Network;
+use dbn_nodes::Node;
+use dbn_value::{Cell, Coder, TypedVars, Value};
+use sqlite_items::Items;
+use std::alloc::{AllocError, Global};
+use std::collections::BTreeMap;
+
+/// Adds the nodes of an accepted query to a network with the relations of its shapes, and gives the number of the node whose rows
+/// are the answers, in the order of the variables: in the cells of this coder and of each that it grows into, for all rows that the
+/// feeds may ever have. A sentence is a query without variables: it holds where the node has a row. What the formula writes gets its
+/// cells. An error is want of memory; then the network isn't live, unless it came before the first node.
+pub fn compile<P: Coder>(
+    alloc: Global,
+    f: &Formula,
+    vars: &TypedVars,
+    coder: &mut P,
+    network: &mut Network<P::Cell>,
+) -> Result<usize, AllocError>
+    requires open { IsOpen network.old }
+    requires accepted { AcceptsQuery network.old.rels vars.now f.now }
+    ensures grown { OnOk result (Grown network.old network.new) }
+    ensures coder { Extends (P.cell_of coder.old) (P.cell_of coder.new) }
+    ensures answers { IfOk result (λ node. AnswersAt P.Cell.cmp P.Cell.int_of (P.cell_of coder.new) network.new.rels f.now vars.now network.new.nodes node) }
+    ensures range { IfOk result (λ node. node < length network.new.nodes) }
+    ensures kept { IfOk result (λ node. (d : NodeOf P.Cell) → IsKept (slice_index_or network.new.nodes node d)) }
+    ensures few { OnOk result (length network.new.nodes ≤ length network.old.nodes + 64 * (size f.now + 1) * (size f.now + columns network.old.rels + 1)) }
+{
+    let form = solvable(alloc, f)?;
+    let consts = constants(alloc, &form)?;
+    put_all(alloc, consts.as_slice(), coder)?;
+    let node = plan(alloc, &form, vars, consts, &*coder, network)?;
+    Ok(node)
+}
+
+/// The nodes of a formula as it is solved, and the columns of the variables.
+fn plan<P: Coder>(
+    alloc: Global,
+    form: &Formula,
+    vars: &TypedVars,
+    consts: Items<Value>,
+    coder: &P,
+    network: &mut Network<P::Cell>,
+) -> Result<usize, AllocError>
+    requires open { IsOpen network.old }
+    requires ready { IsReady (P.cell_of coder.now) network.old.rels [] form.now }
+    requires consts { consts ≡ constants form.now }
+    requires occurring { (x : OfVar) → binds vars.now x ≡ true → In x (occurrences form.now) }
+    ensures { IfOk result (λ node. Planned P.Cell.cmp P.Cell.int_of (P.cell_of coder.now) form.now vars.now network.old network.new node) }
+{
+    let sources = first_sources(alloc, form, consts, network)?;
+    let made = behind_unit(alloc, form, &sources, coder, network)?;
+    let wanted = labels_of(alloc, vars.as_slice())?;
+    let node = projected(alloc, made.node, &made.labels, &wanted, network)?;
+    Ok(node)
+}
+
+/// The unit, and a scan of each relation that the formula names.
+fn first_sources<C: Cell>(
+    alloc: Global,
+    form: &Formula,
+    consts: Items<Value>,
+    network: &mut Network<C>,
+) -> Result<Sources, AllocError>
+    requires open { IsOpen network.old }
+    ensures made { IfOk result (λ sources. Sourced network.old network.new sources (size form.now)) }
+    ensures consts { IfOk result (λ sources. sources.consts ≡ consts) }
+{
+    let unit = network.add(alloc, Node::Unit)?;
+    let mut rels = Items::new(alloc);
+    add_relations(&mut rels, form)?;
+    let mut scans = BTreeMap::new(alloc);
+    scan_each(alloc, rels.as_slice(), &mut scans, network)?;
+    Ok(Sources {
+        unit,
+        scans,
+        consts,
+    })
+}
+
+/// The formula behind the unit. A quantifier at its head needs no projection of its own.
+fn behind_unit<P: Coder>(
+    alloc: Global,
+    form: &Formula,
+    sources: &Sources,
+    coder: &P,
+    network: &mut Network<P::Cell>,
+) -> Result<Context, AllocError>
+    requires open { IsOpen network.old }
+    requires sources { AreSources network.old sources.now }
+    requires ready { IsReady (P.cell_of coder.now) network.old.rels [] form.now }
+    ensures { IfOk result (λ b. Rooted P.Cell.cmp P.Cell.int_of (P.cell_of coder.now) sources.now.consts form.now network.old network.new b.node b.labels) }
+{
+    let unit = Context {
+        node: sources.unit,
+        labels: Items::new(alloc),
+    };
+    match form {
+        Formula::Exists { vars, body } => {
+            chosen_behind(alloc, vars, body.get(), &unit, sources, coder, network)
+        }
+        _ => plain_behind(alloc, form, &unit, sources, coder, network),
+    }
+}
+
+/// A formula behind the unit as it stands.
+fn plain_behind<P: Coder>(
+    alloc: Global,
+    form: &Formula,
+    unit: &Context,
+    sources: &Sources,
+    coder: &P,
+    network: &mut Network<P::Cell>,
+) -> Result<Context, AllocError>
+    requires open { IsOpen network.old }
+    requires sources { AreSources network.old sources.now }
+    requires unit { unit.now.node ≡ sources.now.unit }
+    requires nothing { unit.now.labels ≡ [] }
+    requires ready { IsReady (P.cell_of coder.now) network.old.rels [] form.now }
+    ensures { IfOk result (λ b. Rooted P.Cell.cmp P.Cell.int_of (P.cell_of coder.now) sources.now.consts form.now network.old network.new b.node b.labels) }
+{
+    let made = compile_at(alloc, form, unit, sources, coder, network)?;
+    Ok(made)
+}
+
+/// A quantifier behind the unit, with the columns of its body.
+fn chosen_behind<P: Coder>(
+    alloc: Global,
+    vars: &TypedVars,
+    body: &Formula,
+    unit: &Context,
+    sources: &Sources,
+    coder: &P,
+    network: &mut Network<P::Cell>,
+) -> Result<Context, AllocError>
+    requires open { IsOpen network.old }
+    requires sources { AreSources network.old sources.now }
+    requires unit { unit.now.node ≡ sources.now.unit }
+    requires nothing { unit.now.labels ≡ [] }
+    requires ready { IsReady (P.cell_of coder.now) network.old.rels [] (Formula.Exists vars.now body.now) }
+    ensures { IfOk result (λ b. Rooted P.Cell.cmp P.Cell.int_of (P.cell_of coder.now) sources.now.consts (Formula.Exists vars.now body.now) network.old network.new b.node b.labels) }
+{
+    let inner = compile_at(alloc, body, unit, sources, coder, network)?;
+    let node = with_room(
+        alloc,
+        vars.as_slice(),
+        body,
+        &inner,
+        sources,
+        coder,
+        network,
+    )?;
+    let labels = inner.labels;
+    Ok(Context { node, labels })
+}
+
+/// Gives all values their cells.
+fn put_all<P: Coder>(alloc: Global, values: &[Value], coder: &mut P) -> Result<(), AllocError>
+    ensures grows { Extends (P.cell_of coder.old) (P.cell_of coder.new) }
+    ensures cells { OnOk result (HaveCells (P.cell_of coder.new) values.now) }
+{
+    for value in values {
+        coder.put(alloc, value)?;
+    }
+    Ok(())
+}
