@@ -1,4 +1,6 @@
 mod Completes
+mod Demos
+mod Generators
 mod GroupLaws
 mod Keepers
 mod Making
@@ -8,5 +10,6 @@ mod Pairs
 mod Runs
 mod Saying
 mod Taking
+mod Tallies
 mod Tops
 mod Verbs
