@@ -1,15 +1,13 @@
 -- A call of which all is in order ends with Done, or for want of memory.
-use Rattle.std.proofs.Common.{◌≡◌, ◌≢◌, ◌⊎◌, ℕ, ◌≤◌, nat_lt, Bool, true, false, cond, length, Option, None, Some, IsTrue, inl, inr, refl, sym, ap, subst, ◌∙◌, ⊎_elim}
+use Rattle.std.proofs.Common.{◌≡◌, ◌⊎◌, ℕ, Bool, false, cond, length, Option, None, Some, IsTrue, inl, inr, refl, ap, ◌∙◌, ⊎_elim}
 use Rattle.std.specs.Prelude.{codes}
 use Rattle.std.proofs.lemmas.Bool.{le-ltb}
 use Rattle.dbn_model.specs.Causes.{Rose}
-use Rattle.dbn_model.specs.Lines.{due_lines}
-use Rattle.dbn_model.specs.Runs.{text_of}
 use Rattle.dbn_io.specs.declared.limits.Limits.{Limits}
 use Rattle.dbn_keeper.specs.Creating.{is_made, is_allowed}
 use Rattle.dbn_keeper.specs.Files.{folder}
 use Rattle.dbn_store.specs.States.{Situation, RunState}
-use Rattle.dbn_engine.specs.Steps.{step, text_at}
+use Rattle.dbn_engine.specs.Steps.{text_at}
 use Rattle.dbn_top.specs.declared.verb.Verb.{Verb}
 use Rattle.dbn_top.specs.declared.verb.Verb.TheVariants.{Check, Try, New, Run, Dump, Demo}
 use Rattle.dbn_top.specs.declared.status.Status.{Status}
@@ -18,7 +16,7 @@ use Rattle.dbn_top.specs.Calls.{Call, Given}
 use Rattle.dbn_top.specs.Complete.{IsInOrder, NoneRose, HasShort}
 use Rattle.dbn_top.specs.Due.{declared, replies, making, with_store, uses_of}
 use Rattle.dbn_top.specs.Endings.{Ends, Touches, IsReadWhole}
-use Rattle.dbn_top.specs.Starts.{Found, found, run_in_memory, terms_of}
+use Rattle.dbn_top.specs.Starts.{Found, run_in_memory}
 use Rattle.dbn_top.specs.Writing.{Declared, due}
 use Rattle.dbn_top.proofs.Tops.{complete}
 use Rattle.dbn_top.proofs.Verbs.{accepted_due}

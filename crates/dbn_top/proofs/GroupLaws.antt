@@ -18,10 +18,10 @@ use Rattle.dbn_core.specs.declared.outcome.Fired.{Fired}
 use Rattle.dbn_core.specs.declared.outcome.Refusal.{Refusal}
 use Rattle.dbn_core.specs.Fire.{Firing, fire_at, refusal_at}
 use Rattle.dbn_core.specs.Group.{Grouping, group, group_from, and_then}
-use Rattle.dbn_keeper.specs.Files.{Folder, folder}
+use Rattle.dbn_keeper.specs.Files.{Folder}
 use Rattle.dbn_store.specs.Folders.{meaning}
 use Rattle.dbn_store.specs.States.{Situation, situation, RunState}
-use Rattle.dbn_engine.specs.Steps.{Terms, Answer, answers, has_room, body_of, fits, is_due, kept, checkpointed, may_keep, fire_made, fire_ready, is_too_old, group_made, group_sized, text_at, command_answer, asked_answer, line_answer, tended, behind, step}
+use Rattle.dbn_engine.specs.Steps.{Terms, Answer, answers, has_room, body_of, is_due, kept, checkpointed, may_keep, fire_made, fire_ready, is_too_old, group_made, group_sized, text_at, command_answer, asked_answer, line_answer, tended, step}
 use Rattle.dbn_top.specs.declared.status.Status.{Status}
 use Rattle.dbn_top.specs.declared.status.Status.TheVariants as status
 use Rattle.dbn_top.specs.Crashes.{StandsAfter, StandsFront, IsFrontOfGroups}

@@ -1,11 +1,10 @@
 -- A keeper over two disks: what it says of them, before its work and behind it.
-use Rattle.std.proofs.Common.{◌≡◌, ◌≢◌, ◌⊎◌, ℕ, ◌+◌, ◌^◌, ◌≤◌, ◌&&◌, Bool, true, false, List, [], ◌∷◌, length, get_or, Option, None, Some, is_some, IsTrue, refl, sym, ap, subst, ◌∙◌, arith}
+use Rattle.std.proofs.Common.{◌≡◌, ◌≢◌, ◌⊎◌, ℕ, ◌^◌, ◌≤◌, ◌&&◌, Bool, true, List, [], ◌∷◌, length, get_or, Option, None, Some, is_some, IsTrue, refl, sym, ap, subst, ◌∙◌}
 use Rattle.dbn_model.specs.Causes.{Rose}
 use Rattle.dbn_disk.specs.Disk.{DiskState}
 use Rattle.dbn_keeper.specs.Files.{Store, Folder, folder, place_behind}
 use Rattle.dbn_keeper.specs.Files.Folder.{NotMade, NotAStore, Holds}
 use Rattle.dbn_keeper.specs.Keeping.{KeeperState, Keeps, SameFiles, IsSettled, NoneFalls, RoseIn}
-use Rattle.dbn_io.specs.declared.limits.Limits.{Limits}
 use Rattle.dbn_store.specs.States.{Situation, RunState, run_state, run_over}
 use Rattle.dbn_store.specs.Folders.{Opened, opened, situation_in, meaning}
 use Rattle.dbn_store.specs.Folders.Opened.{IsNotMade, IsNoStore, IsDamaged, Stands}
@@ -14,7 +13,7 @@ use Rattle.dbn_top.specs.declared.status.Status.{Status}
 use Rattle.dbn_top.specs.declared.status.Status.TheVariants as status
 use Rattle.dbn_top.specs.Calls.{device}
 use Rattle.dbn_top.specs.Crashes.{Stays, is_store}
-use Rattle.dbn_top.specs.Endings.{KeepsDisks, both_told, both_honest}
+use Rattle.dbn_top.specs.Endings.{KeepsDisks}
 use Rattle.dbn_keeper.specs.declared.find.FindFault.{FindFault}
 use Rattle.dbn_keeper.specs.declared.find.FindFault.TheVariants as found
 use Rattle.dbn_top.specs.Keepers.{IsOver, ShowsAll, ShowsOnly, IsWhy, fault_of_finding}

@@ -1,5 +1,5 @@
 -- A net that was read whole, or given up.
-use Rattle.std.proofs.Common.{◌≡◌, ◌≢◌, ℕ, ◌+◌, ◌≤◌, ◌<◌, nat_lt, Bool, true, false, cond, List, [], ◌∷◌, ◌++◌, length, Option, None, Some, Result, Ok, Err, refl, sym, ap, subst, ◌∙◌, arith, append-nil, length-append}
+use Rattle.std.proofs.Common.{◌≡◌, ℕ, ◌+◌, ◌≤◌, ◌<◌, Bool, cond, List, [], ◌++◌, length, Option, None, Some, Ok, refl, sym, ap, subst, ◌∙◌, arith, append-nil, length-append}
 use Rattle.std.proofs.lemmas.Bool.{lt-ltb, le-ltb}
 use Rattle.std.specs.Io.KnownBytes.{Appends, Consumes, IsAtEnd}
 use Rattle.dbn_io.specs.declared.limits.Limits.{Limits}
@@ -8,9 +8,8 @@ use Rattle.dbn_io.specs.declared.take.ReadStop.TheVariants as stop
 use Rattle.dbn_net.specs.declared.decl.Decl.{Decl}
 use Rattle.dbn_net.specs.declared.snapshot.Snapshot.{Snapshot}
 use Rattle.dbn_net.specs.declared.fault.NetKind.{NetKind}
-use Rattle.dbn_net.specs.Texts.{Start, Fault, fault, reads}
+use Rattle.dbn_net.specs.Texts.{fault, reads}
 use Rattle.dbn_store.specs.States.{Situation, situation}
-use Rattle.dbn_top.specs.declared.status.Status.{Status}
 use Rattle.dbn_top.specs.declared.status.Status.TheVariants as status
 use Rattle.dbn_top.specs.Calls.{Stream}
 use Rattle.dbn_top.specs.Due.{with_net, net_line}

@@ -1,13 +1,13 @@
 -- A keeper over two files, and its disks in their places.
-use Rattle.std.proofs.Common.{◌≡◌, ◌≢◌, ◌⊎◌, ℕ, zero, suc, ◌+◌, ◌-◌, ◌^◌, ◌≤◌, ◌<◌, ◌&&◌, Bool, true, false, cond, List, [], ◌∷◌, get_or, Option, None, Some, is_some, IsTrue, inl, inr, refl, sym, ap, subst, ◌∙◌, arith}
+use Rattle.std.proofs.Common.{◌≡◌, ◌⊎◌, ℕ, zero, suc, ◌&&◌, Bool, true, false, cond, List, [], ◌∷◌, get_or, Option, None, Some, is_some, inl, inr, refl, sym, ap, subst, ◌∙◌, arith}
 use Rattle.dbn_model.specs.Causes.{Rose}
-use Rattle.dbn_disk.specs.Disk.{DiskState, Only}
+use Rattle.dbn_disk.specs.Disk.{DiskState}
 use Rattle.dbn_keeper.specs.Files.{Folder, folder}
-use Rattle.dbn_keeper.specs.Keeping.{KeeperState, RoseIn}
+use Rattle.dbn_keeper.specs.Keeping.{RoseIn}
 use Rattle.dbn_keeper.specs.TwoFiles.{pair_of, pair_list, pair_bytes, both_held, Cursor, two_state}
 use Rattle.dbn_twofile.specs.Finding.{OnlySynced}
 use Rattle.dbn_top.specs.Endings.{both_told, both_honest}
-use Rattle.dbn_top.specs.Keepers.{IsOver, ShowsAll, ShowsOnly}
+use Rattle.dbn_top.specs.Keepers.{IsOver, ShowsOnly}
 
 and_swap : (p q : Bool) → (p && q) ≡ (q && p)
 and_swap true true = refl

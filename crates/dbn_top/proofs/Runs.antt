@@ -1,22 +1,22 @@
 -- A run as it was served, in the words of a call.
-use Rattle.std.proofs.Common.{◌≡◌, ◌≢◌, ◌⊎◌, ℕ, ◌+◌, ◌≤◌, ◌<◌, ◌^◌, nat_lt, nat_le, Bool, true, false, cond, List, [], ◌∷◌, ◌++◌, length, take, Option, None, Some, Ok, IsTrue, inl, inr, refl, sym, ap, subst, ◌∙◌, arith}
+use Rattle.std.proofs.Common.{◌≡◌, ◌≢◌, ℕ, ◌+◌, ◌≤◌, nat_lt, Bool, true, false, cond, List, [], length, take, Option, None, Some, Ok, IsTrue, refl, sym, ap, subst, ◌∙◌, arith}
 use Rattle.std.proofs.lemmas.Bool.{le-leb}
-use Rattle.std.specs.Io.KnownBytes.{Appends, Consumes}
+use Rattle.std.specs.Io.KnownBytes.{Appends}
 use Rattle.dbn_model.specs.Causes.{Rose}
-use Rattle.dbn_model.specs.Lines.{Line, due_lines, whole_lines}
-use Rattle.dbn_model.specs.Runs.{text_of, state_after}
+use Rattle.dbn_model.specs.Lines.{due_lines, whole_lines}
+use Rattle.dbn_model.specs.Runs.{text_of}
 use Rattle.dbn_io.specs.declared.limits.Limits.{Limits}
 use Rattle.dbn_net.specs.declared.decl.Decl.{Decl}
 use Rattle.dbn_net.specs.declared.snapshot.Snapshot.{Snapshot}
 use Rattle.dbn_net.specs.Texts.{reads}
 use Rattle.dbn_keeper.specs.declared.base.Base.{Base}
 use Rattle.dbn_keeper.specs.declared.opening.Form.TheVariants.{Two}
-use Rattle.dbn_keeper.specs.Files.{Store, Folder, new_store}
+use Rattle.dbn_keeper.specs.Files.{Store, new_store}
 use Rattle.dbn_keeper.specs.Files.Folder.{Holds}
 use Rattle.dbn_keeper.specs.Keeping.{KeeperState}
 use Rattle.dbn_keeper.specs.Memory.{mem_state, mem_store}
 use Rattle.dbn_store.specs.States.{Situation, situation, RunState, run_state}
-use Rattle.dbn_store.specs.Folders.{opened, opened_from, started, start_of}
+use Rattle.dbn_store.specs.Folders.{opened, opened_from, started}
 use Rattle.dbn_store.specs.Folders.Opened.{Stands}
 use Rattle.dbn_engine.specs.Steps.{Terms, step}
 use Rattle.dbn_engine.specs.Serving.{EngineState, engine_state, Joined}

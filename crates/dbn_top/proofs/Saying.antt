@@ -1,9 +1,8 @@
 -- The last line of a call, of which a front was written.
-use Rattle.std.proofs.Common.{◌≡◌, ℕ, ◌<◌, Bool, true, false, List, [], ◌++◌, length, Option, None, Some, refl, sym, ap, subst, ◌∙◌, append-nil}
+use Rattle.std.proofs.Common.{◌≡◌, ℕ, true, false, List, [], Option, None, Some, refl, sym, subst, ◌∙◌, append-nil}
 use Rattle.std.specs.Io.KnownBytes.{Appends}
 use Rattle.dbn_model.specs.Content.{AppendsPart}
 use Rattle.dbn_top.specs.declared.status.Status.{Status}
-use Rattle.dbn_top.specs.declared.status.Status.TheVariants as status
 use Rattle.dbn_top.specs.Calls.{Stream}
 use Rattle.dbn_top.specs.Writing.{Declared, Writes, is_broken_off}
 

@@ -1,5 +1,5 @@
 -- How much of a net was taken.
-use Rattle.std.proofs.Common.{◌≡◌, ℕ, ◌+◌, ◌≤◌, List, length, Option, arith}
+use Rattle.std.proofs.Common.{ℕ, ◌+◌, ◌≤◌, List, length, arith}
 use Rattle.std.specs.Io.KnownBytes.{Consumes}
 use Rattle.dbn_io.specs.Stops.{MayTake, Stopped}
 use Rattle.dbn_io.specs.declared.take.ReadStop.{ReadStop}

@@ -1,12 +1,12 @@
 -- From what the parts of a call say to what the call says.
-use Rattle.std.proofs.Common.{◌≡◌, ◌≢◌, ◌⊎◌, ◌&&◌, ◌||◌, not, ℕ, ◌+◌, ◌<◌, ◌≤◌, Bool, true, false, cond, List, [], ◌∷◌, ◌++◌, length, take, Option, None, Some, is_some, IsTrue, IsFalse, inl, inr, refl, sym, ap, subst, ◌∙◌, ⊎_elim, arith, append-nil}
+use Rattle.std.proofs.Common.{◌≡◌, ◌≢◌, ◌⊎◌, ◌&&◌, ◌||◌, not, ℕ, ◌≤◌, Bool, true, false, List, [], take, Option, None, Some, is_some, IsTrue, inl, inr, refl, sym, ap, subst, ◌∙◌, ⊎_elim, arith, append-nil}
 use Rattle.std.proofs.lemmas.Bool.{true≢false, and_parts}
 use Rattle.std.specs.Io.KnownBytes.{Appends, Consumes, IsAtEnd}
 use Rattle.dbn_model.specs.Causes.{Rose}
 use Rattle.dbn_model.specs.Lines.{Line, due_lines}
-use Rattle.dbn_model.specs.Runs.{state_after, text_of, replies, answered, IsSilentWhereBlank}
+use Rattle.dbn_model.specs.Runs.{text_of, replies, answered, IsSilentWhereBlank}
 use Rattle.dbn_model.proofs.RunLaws.{answered-blank}
-use Rattle.dbn_disk.specs.Disk.{DiskState, Only}
+use Rattle.dbn_disk.specs.Disk.{DiskState}
 use Rattle.dbn_io.specs.declared.limits.Limits.{Limits}
 use Rattle.dbn_keeper.specs.Creating.{is_made}
 use Rattle.dbn_keeper.specs.Files.{Store, Folder, folder}
@@ -17,7 +17,7 @@ use Rattle.dbn_twofile.specs.Resting.{IsStable}
 use Rattle.dbn_store.specs.States.{Situation, RunState, run_state}
 use Rattle.dbn_store.specs.Folders.{meaning}
 use Rattle.dbn_engine.specs.Steps.{Terms, step, text_at}
-use Rattle.dbn_engine.specs.Serving.{EngineState, engine_state}
+use Rattle.dbn_engine.specs.Serving.{engine_state}
 use Rattle.dbn_engine.specs.AllLines.{Serves}
 use Rattle.dbn_engine.specs.AllLines as lines
 use Rattle.dbn_engine.specs.declared.run_end.RunEnd.{RunEnd}
@@ -28,14 +28,14 @@ use Rattle.dbn_top.specs.declared.status.Status.{Status}
 use Rattle.dbn_top.specs.declared.status.Status.TheVariants as status
 use Rattle.dbn_top.specs.declared.opening.OpenFault.{OpenFault}
 use Rattle.dbn_top.specs.declared.opening.OpenFault.TheVariants as fault
-use Rattle.dbn_top.specs.Calls.{Stream, Device, Call, Given, Uses, Tells, IsUntouched, IsIdle, IsSettled, stream, device, call_of}
-use Rattle.dbn_top.specs.Crashes.{StandsAfter, StandsFront, IsPrefix, IsFinished, RunLeaves, IsNew, CrashOf, Spares, Stays, IsKept, is_store, writes_disks, keeps_bytes}
-use Rattle.dbn_top.specs.Due.{declared, with_store, replies as replies_due, uses_of, reached, answers_of, answers_from}
-use Rattle.dbn_top.specs.Endings.{can_end, BreaksOff, Touches, TouchesDisks, Keeps, KeepsDisks, IsReadWhole, Ends, TakesFew, both_told, both_honest}
-use Rattle.dbn_top.specs.Keepers.{IsOver, ShowsAll, ShowsOnly, IsWhy, status_of_end, status_of_fault}
+use Rattle.dbn_top.specs.Calls.{Stream, Device, Call, Given, Uses, IsUntouched, IsIdle, IsSettled, device, call_of}
+use Rattle.dbn_top.specs.Crashes.{StandsAfter, StandsFront, RunLeaves, IsNew, CrashOf, Spares, Stays, IsKept, is_store}
+use Rattle.dbn_top.specs.Due.{declared, with_store, replies as replies_due, uses_of, reached, answers_from}
+use Rattle.dbn_top.specs.Endings.{can_end, BreaksOff, Touches, TouchesDisks, Keeps, KeepsDisks, Ends, TakesFew, both_told, both_honest}
+use Rattle.dbn_top.specs.Keepers.{IsOver, ShowsAll, IsWhy, status_of_end}
 use Rattle.dbn_top.specs.Starts.{Found, found, found_in, run_in, is_there, accepted_in, terms_of}
 use Rattle.dbn_top.specs.Starts.Found.{NoFile, NoStore, Damage, Runs}
-use Rattle.dbn_top.specs.Writing.{Writes, Declared, is_broken_off, due as due_record}
+use Rattle.dbn_top.specs.Writing.{Writes, due as due_record}
 use Rattle.dbn_top.proofs.GroupLaws.{behind_groups}
 use Rattle.dbn_top.proofs.Keepers.{both_known, store_in, meaning_of}
 use Rattle.dbn_top.proofs.Runs.{stands_after, is_done}

@@ -1,5 +1,5 @@
 -- The verbs that read a net: how a call ends whose net is accepted, and one whose net is not.
-use Rattle.std.proofs.Common.{◌≡◌, ◌≢◌, ◌⊎◌, ℕ, ◌≤◌, nat_lt, Bool, true, false, cond, List, [], length, take, Option, None, Some, is_some, Result, Ok, Err, IsTrue, IsFalse, inl, inr, refl, sym, ap, subst, ◌∙◌, arith, append-nil}
+use Rattle.std.proofs.Common.{◌≡◌, ◌≢◌, ◌⊎◌, ℕ, ◌≤◌, nat_lt, Bool, true, false, cond, List, [], length, take, Option, None, Some, is_some, Result, Ok, Err, IsTrue, inl, inr, refl, sym, ap, subst, ◌∙◌, arith, append-nil}
 use Rattle.std.specs.Prelude.{codes}
 use Rattle.std.proofs.lemmas.Bool.{true≢false}
 use Rattle.std.specs.Io.KnownBytes.{Appends, Consumes, IsAtEnd}
@@ -10,7 +10,7 @@ use Rattle.dbn_model.specs.Runs.{text_of}
 use Rattle.dbn_io.specs.declared.limits.Limits.{Limits}
 use Rattle.dbn_net.specs.declared.fault.NetKind.{NetKind}
 use Rattle.dbn_net.specs.Texts.{Start, Fault, reads}
-use Rattle.dbn_store.specs.States.{Situation, RunState}
+use Rattle.dbn_store.specs.States.{Situation}
 use Rattle.dbn_engine.specs.Steps.{step}
 use Rattle.dbn_top.specs.declared.verb.Verb.{Verb}
 use Rattle.dbn_top.specs.declared.verb.Verb.TheVariants.{Check, Try, New}

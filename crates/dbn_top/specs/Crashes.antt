@@ -1,5 +1,5 @@
 -- What a crash now may leave of both disks.
-use Rattle.std.specs.Prelude.{◌≡◌, ◌⊎◌, ℕ, ◌+◌, Bool, true, false, ◌&&◌, ◌||◌, not, List, [], ◌∷◌, ◌++◌, length, take, Option, None, Some, Ok, IsTrue}
+use Rattle.std.specs.Prelude.{◌≡◌, ◌⊎◌, ℕ, ◌+◌, Bool, true, false, ◌&&◌, ◌||◌, not, List, ◌++◌, length, take, Option, None, Some, IsTrue}
 use Rattle.std.specs.Io.KnownBytes.{Appends}
 use Rattle.dbn_model.specs.Lines.{Line, due_lines}
 use Rattle.dbn_model.specs.Runs.{state_after, replies, answered}
@@ -20,8 +20,8 @@ use Rattle.dbn_top.specs.Calls.{Stream, Device, Call, Given}
 use Rattle.dbn_top.specs.Due.{reached}
 use Rattle.dbn_top.specs.Endings.{TouchesDisks, both_honest}
 use Rattle.dbn_top.specs.Groups.{groups_of, StandsBehind}
-use Rattle.dbn_top.specs.Starts.{accepted_in, base_of, terms_of, Found, found, run_in, is_there}
-use Rattle.dbn_top.specs.Starts.Found.{NoFile, Runs}
+use Rattle.dbn_top.specs.Starts.{accepted_in, base_of, terms_of, found, run_in, is_there}
+use Rattle.dbn_top.specs.Starts.Found.{Runs}
 
 -- ---- a run
 

@@ -1,5 +1,5 @@
 -- The declared run: how a call is due to end and what is due to be written, by the verb and by all that it reads.
-use Rattle.std.specs.Prelude.{ℕ, Bool, true, false, cond, nat_lt, List, ◌++◌, length, Option, None, Some, codes, decimal}
+use Rattle.std.specs.Prelude.{ℕ, true, false, cond, nat_lt, List, ◌++◌, length, Option, None, Some, codes, decimal}
 use Rattle.dbn_model.specs.Lines.{Line, due_lines}
 use Rattle.dbn_model.specs.Runs.{text_of}
 use Rattle.dbn_io.specs.declared.limits.Limits.{Limits}
@@ -8,10 +8,9 @@ use Rattle.dbn_net.specs.declared.fault.NetKind.TheVariants as kind
 use Rattle.dbn_keeper.specs.Creating.{is_made, is_allowed}
 use Rattle.dbn_keeper.specs.Files.{folder}
 use Rattle.dbn_store.specs.States.{Situation, RunState}
-use Rattle.dbn_engine.specs.Steps.{Terms, text_at, step}
+use Rattle.dbn_engine.specs.Steps.{text_at, step}
 use Rattle.dbn_top.specs.declared.verb.Verb.{Verb}
 use Rattle.dbn_top.specs.declared.verb.Verb.TheVariants.{Check, Try, New, Run, Dump, Demo}
-use Rattle.dbn_top.specs.declared.status.Status.{Status}
 use Rattle.dbn_top.specs.declared.status.Status.TheVariants as status
 use Rattle.dbn_top.specs.Calls.{Given, Uses, uses}
 use Rattle.dbn_top.specs.Demos.{demo_line}

@@ -1,11 +1,10 @@
 -- How a call ends: what was written, why it stopped, and what it left as it was.
-use Rattle.std.specs.Prelude.{◌≡◌, ◌≢◌, ◌⊎◌, ℕ, ◌+◌, ◌≤◌, ◌&&◌, ◌||◌, Bool, true, false, List, [], ◌++◌, length, take, Option, None, Some, is_some, is_none, IsTrue, IsFalse}
+use Rattle.std.specs.Prelude.{◌≡◌, ◌≢◌, ◌⊎◌, ℕ, ◌+◌, ◌≤◌, ◌&&◌, ◌||◌, Bool, true, List, length, take, Option, Some, is_some, is_none, IsTrue, IsFalse}
 use Rattle.std.specs.Io.KnownBytes.{Appends, Consumes, IsAtEnd}
 use Rattle.dbn_model.specs.Causes.{Rose}
 use Rattle.dbn_model.specs.Content.{SameTold}
 use Rattle.dbn_model.specs.Lines.{Line, whole_lines, due_lines}
 use Rattle.dbn_disk.specs.Disk.{DiskState}
-use Rattle.dbn_io.specs.declared.limits.Limits.{Limits}
 use Rattle.dbn_top.specs.declared.verb.Verb.{Verb}
 use Rattle.dbn_top.specs.declared.status.Status.{Status}
 use Rattle.dbn_top.specs.declared.status.Status.TheVariants as status

@@ -1,5 +1,5 @@
 -- The groups of a run, and what stands behind them.
-use Rattle.std.specs.Prelude.{◌≡◌, cond, List, [], ◌∷◌, ◌++◌, Option, Some, is_some, Result, Ok, Err}
+use Rattle.std.specs.Prelude.{◌≡◌, cond, List, [], ◌∷◌, ◌++◌, Some, is_some, Result, Ok, Err}
 use Rattle.dbn_model.specs.Lines.{Line}
 use Rattle.dbn_model.specs.Lines.Line.{Text, Long}
 use Rattle.dbn_value.specs.declared.member.Member.{Member}

@@ -1,5 +1,5 @@
 -- A keeper over two disks, and what it leaves of them.
-use Rattle.std.specs.Prelude.{◌≡◌, ◌⊎◌, ℕ, Bool, List, [], ◌∷◌, Option, Some, is_some, IsTrue}
+use Rattle.std.specs.Prelude.{◌≡◌, ℕ, List, [], ◌∷◌, Some, is_some, IsTrue}
 use Rattle.dbn_disk.specs.Disk.{DiskState}
 use Rattle.dbn_keeper.specs.Files.{Folder, folder}
 use Rattle.dbn_keeper.specs.Keeping.{KeeperState}

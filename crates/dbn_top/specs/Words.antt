@@ -1,7 +1,6 @@
 -- The table of the words that name a verb.
 use Rattle.std.specs.Prelude.{ℕ, Bool, cond, ◌&&◌, nat_le, List, [], ◌∷◌, Option, None, Some, codes, decimal, bytes_eq}
 use Rattle.std.specs.Str.Parse.{digits_value}
-use Rattle.std.specs.Option.{option_map}
 use Rattle.dbn_model.specs.NetText.{after}
 use Rattle.dbn_top.specs.declared.verb.Verb.{Verb}
 use Rattle.dbn_top.specs.declared.verb.Verb.TheVariants.{Check, Try, New, Run, Dump, Demo}

@@ -1,4 +1,4 @@
-use Rattle.std.proofs.Common.{◌≡◌, sym, ap, subst, ◌∙◌}
+use Rattle.std.proofs.Common.{sym, ap, subst, ◌∙◌}
 use Rattle.dbn_net.specs.Texts.{reads}
 use Rattle.dbn_top.specs.Calls.{stream}
 use Rattle.dbn_top.specs.Writing.{Declared, Writes}

@@ -1,4 +1,4 @@
-use Rattle.std.proofs.Common.{◌≡◌, ℕ, rules, refl, sym, ap, subst, ◌∙◌, arith, Some}
+use Rattle.std.proofs.Common.{ℕ, rules, refl, subst, ◌∙◌, arith, Some}
 use Rattle.std.specs.Prelude.{codes}
 use Rattle.dbn_model.specs.Causes.{Rose}
 use Rattle.dbn_store.specs.States.{situation}

@@ -1,12 +1,10 @@
-use Rattle.std.proofs.Common.{◌≡◌, List, ℕ, Bool, Option, Some, None, rules, refl, sym, ap, subst, ◌∙◌, arith}
+use Rattle.std.proofs.Common.{ℕ, Option, Some, refl, sym, ap, subst, ◌∙◌, arith}
 use Rattle.std.proofs.lemmas.Bool.{true≢false}
 use Rattle.dbn_model.specs.Causes.{Rose}
-use Rattle.dbn_keeper.specs.Creating.{is_made}
-use Rattle.dbn_keeper.specs.Files.{folder}
 use Rattle.dbn_store.specs.States.{Situation, situation}
 use Rattle.dbn_top.specs.Calls.{stream, device}
 use Rattle.dbn_top.specs.Crashes.{IsNew}
-use Rattle.dbn_top.specs.Starts.{is_there, accepted_in}
+use Rattle.dbn_top.specs.Starts.{is_there}
 use Rattle.dbn_top.specs.declared.verb.Verb.TheVariants as verbs
 use Rattle.dbn_top.proofs.Tops.{nothing_new, same_files, kept_stays, made_of_spared, made_of_kept}
 use Rattle.dbn_top.proofs.Verbs.{new_ends, refused_new, new_kind, net_keeps, moved_writes, same_situation}

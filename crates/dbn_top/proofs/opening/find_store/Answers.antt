@@ -1,4 +1,4 @@
-use Rattle.std.proofs.Common.{◌≡◌, cond, refl, sym, subst}
+use Rattle.std.proofs.Common.{cond, refl, sym, subst}
 use Rattle.dbn_keeper.specs.Files.{folder}
 use Rattle.dbn_twofile.specs.Resting.{two_cursor}
 use Rattle.dbn_top.specs.Keepers.{IsWhy}

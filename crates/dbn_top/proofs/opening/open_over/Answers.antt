@@ -1,4 +1,4 @@
-use Rattle.std.proofs.Common.{◌≡◌, List, ℕ, rules, refl, sym, ap, subst, ◌∙◌, IsTrue}
+use Rattle.std.proofs.Common.{◌∙◌}
 use Rattle.dbn_store.specs.States.{situation}
 use Rattle.dbn_top.proofs.Keepers.{joined_from, runs_from, no_store_of, damage_of, is_a_store}
 use Rattle.dbn_top.proofs.opening.open_over.Goals as goal

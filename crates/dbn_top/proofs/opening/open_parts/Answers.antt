@@ -1,4 +1,4 @@
-use Rattle.std.proofs.Common.{◌≡◌, List, ℕ, refl, sym, ap, subst, ◌∙◌}
+use Rattle.std.proofs.Common.{sym, ◌∙◌}
 use Rattle.std.proofs.lemmas.Bool.{true≢false}
 use Rattle.dbn_keeper.specs.Files.{folder}
 use Rattle.dbn_top.proofs.Keepers.{over_same, only_same, stays_from, keeps_from}

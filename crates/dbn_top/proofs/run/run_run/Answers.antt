@@ -1,10 +1,9 @@
-use Rattle.std.proofs.Common.{◌≡◌, ◌≢◌, List, ℕ, rules, refl, sym, ap, subst, ◌∙◌, IsTrue}
+use Rattle.std.proofs.Common.{refl, sym, ap, subst, ◌∙◌}
 use Rattle.dbn_model.specs.Lines.{due_lines}
 use Rattle.dbn_top.specs.declared.status.Status.{Status}
-use Rattle.dbn_top.specs.declared.status.Status.TheVariants as status
 use Rattle.dbn_top.specs.Calls.{stream, device}
 use Rattle.dbn_top.specs.Crashes.{RunLeaves}
-use Rattle.dbn_top.specs.Endings.{KeepsDisks, Ends, can_end}
+use Rattle.dbn_top.specs.Endings.{KeepsDisks}
 use Rattle.dbn_top.specs.Keepers.{status_of_end}
 use Rattle.dbn_top.specs.Starts.{Found, run_in, is_there, terms_of}
 use Rattle.std.proofs.lemmas.Bool.{true≢false}

@@ -1,4 +1,4 @@
-use Rattle.std.proofs.Common.{◌≡◌, refl, sym, ap}
+use Rattle.std.proofs.Common.{ap}
 use Rattle.dbn_store.specs.States.{situation}
 use Rattle.dbn_engine.specs.Obeying.{terms_of}
 use Rattle.dbn_top.proofs.Keepers.{runs_from}

@@ -1,4 +1,4 @@
-use Rattle.std.proofs.Common.{◌≡◌, List, ℕ, Option, Some, None, rules, refl, sym, ap, subst, ◌∙◌}
+use Rattle.std.proofs.Common.{List, ℕ, Option, None, rules, refl, ap, subst}
 use Rattle.dbn_model.specs.Lines.{due_lines}
 use Rattle.dbn_model.specs.Runs.{text_of}
 use Rattle.dbn_store.specs.States.{Situation, situation}

@@ -1,8 +1,8 @@
-use Rattle.std.proofs.Common.{◌≡◌, List, ℕ, None, rules, refl, sym, ap, subst, ◌∙◌}
+use Rattle.std.proofs.Common.{List, None, sym, ap, subst, ◌∙◌}
 use Rattle.dbn_keeper.specs.Memory.{mem_state}
 use Rattle.dbn_model.specs.Lines.{due_lines}
 use Rattle.dbn_model.specs.Runs.{text_of}
-use Rattle.dbn_store.specs.States.{Situation, situation, run_state}
+use Rattle.dbn_store.specs.States.{situation, run_state}
 use Rattle.dbn_engine.specs.Steps.{step}
 use Rattle.dbn_net.specs.declared.decl.Decl.{Decl}
 use Rattle.dbn_top.specs.declared.status.Status.{Status}

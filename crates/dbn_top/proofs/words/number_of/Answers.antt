@@ -1,6 +1,5 @@
 use Rattle.std.proofs.Common.{◌≡◌, ◌≤◌, List, ℕ, get_or, sym, ap, ◌∙◌, subst, arith, Err}
 use Rattle.std.specs.Str.Parse.{ParsesUnsigned}
-use Rattle.dbn_top.specs.Words.{number_of as number_in_digits}
 use Rattle.dbn_top.proofs.Numbers.{number_some, number_none, below_one, is_utf8, unparsed, parsed, too_great, Parsed}
 use Rattle.dbn_top.proofs.words.number_of.Goals as goal
 
