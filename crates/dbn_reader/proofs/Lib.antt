@@ -1,6 +1,7 @@
 pub mod BoundLaws
 pub mod BrokenLaws
 pub mod DepthLaws
+pub mod FitLaws
 pub mod GuardLaws
 pub mod IdLaws
 pub mod InputLaws
@@ -11,6 +12,7 @@ pub mod NewLaws
 pub mod NumberLaws
 pub mod PairLaws
 pub mod PickedLaws
+pub mod QuantifiedLaws
 pub mod QueueLaws
 pub mod ReadingLaws
 pub mod RelationLaws

@@ -4,8 +4,10 @@ pub mod Duplicates
 pub mod Gives
 pub mod Judged
 pub mod Light
+pub mod Quantified
 pub mod Reading
 pub mod Resolving
+pub mod Scopes
 pub mod Short
 pub mod Terms
 pub mod Used

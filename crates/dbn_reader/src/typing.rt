@@ -5,6 +5,7 @@ ghost use Rattle.std.specs.Option.{option_map_or};
 ghost use Rattle.dbn_formula.specs.Typing.{types_fit};
 ghost use Rattle.dbn_net.specs.Judging.{row_fits, types_eq, picked_types, is_typed};
 
+use super::formula_types::formula_fits;
 use super::numbers::columns;
 use super::terms::{TermTest, action_passes, transition_passes};
 use dbn_formula::{Formula, types_fit};
@@ -51,12 +52,12 @@ fn part_is_typed(alloc: Global, net: &Net, decl: &Decl) -> Result<bool, AllocErr
             let others = picked_types(alloc, columns(rels, *to), to_fields.as_slice())?;
             Ok(types_eq(types.as_slice(), others.as_slice()))
         }
-        Decl::Always { name: _, body } => Ok(types_fit(body, &[], net.rel_shapes())),
+        Decl::Always { name: _, body } => formula_fits(alloc, body, &[], net.rel_shapes()),
         Decl::Query {
             name: _,
             vars,
             body,
-        } => Ok(types_fit(body, vars.as_slice(), net.rel_shapes())),
+        } => formula_fits(alloc, body, vars.as_slice(), net.rel_shapes()),
         Decl::Act(action) => Ok(action_passes(TermTest::Fit, net, action)),
         Decl::Trans(transition) => transition_is_typed(alloc, net, transition),
     }
