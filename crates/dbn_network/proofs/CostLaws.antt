@@ -146,7 +146,7 @@ module _ {C : Type 0} (R : C → C → Ordering) where
           subst (λ k. steps ≤ before + 8 * k)
           (sym (front_more (nodes_of old) loads i s.state.node (load_in R feed v w loads s.state.node) (omega arith) (omega arith) (sym (here s.state.node)) (sym own_load ∙ same_inside loads i 0 _ (omega arith))))
           (summed before middle steps (length (events_from feed event all (left_in s.state.node)) + length (events_from feed event all (right_in s.state.node))) (length events) (front_loads (nodes_of old) loads i)
-              (named_load loads (left_in s.state.node) + named_load loads (right_in s.state.node) + load_in R feed v w loads s.state.node) (counted.cost feeds nodes f g v w b) step.cost
+          (named_load loads (left_in s.state.node) + named_load loads (right_in s.state.node) + load_in R feed v w loads s.state.node) (counted.cost feeds nodes f g v w b) step.cost
           (within_steps R feed f g v w loads s.state.node (length (events_from feed event all (left_in s.state.node))) (length (events_from feed event all (right_in s.state.node))) (length events) (input_few (left_in s.state.node) early.0) (input_few (right_in s.state.node) early.1) few_now))
         where
           summed : (a b c ins out front more : ℕ) → b ≤ a + 8 * front → c ≤ b + 4 * ins + 2 * out → 4 * ins + 2 * out ≤ 8 * more → c ≤ a + 8 * (front + more)

@@ -9,3 +9,4 @@ pub mod PassLaws
 pub mod RunLaws
 pub mod TableLaws
 pub mod ValueLaws
+pub mod WorkedLaws

@@ -102,7 +102,7 @@ module _ {C : Type 0} {R : C → C → Ordering} (o : IsTotalOrder R) (exact : I
         let loads : List ℕ = loads_of R feed (values R (feeds_of R tables) (nodes_of states)) (values R next (nodes_of states)) (nodes_of states) in
         subst (λ (s : State C). last ≤ first + max 1 (bound R s.nodes feed s.feeds (changed R s.feeds (change_at feed e)))) view
         (summed first middle last (all_loads (nodes_of states) loads) (max 1 (8 * (length (nodes_of states) + all_loads (nodes_of states) loads))) one
-            (costs (feed_widths shapes) (widths (feed_widths shapes) (nodes_of states)) (feeds_of R tables) next (values R (feeds_of R tables) (nodes_of states)) (values R next (nodes_of states))
+        (costs (feed_widths shapes) (widths (feed_widths shapes) (nodes_of states)) (feeds_of R tables) next (values R (feeds_of R tables) (nodes_of states)) (values R next (nodes_of states))
         (before o exact shapes states tables network_is feed e (feed_there feed range) wide_is fits_is))
         (within_bound (nodes_of states) loads (count_loads R feed (values R (feeds_of R tables) (nodes_of states)) (values R next (nodes_of states)) (nodes_of states))))
       where

@@ -4,3 +4,4 @@ pub mod Loads
 pub mod Passes
 pub mod States
 pub mod Values
+pub mod Worked
