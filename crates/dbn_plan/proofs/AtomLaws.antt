@@ -1,16 +1,16 @@
 -- The rows of a relation that pass the tests of an atom are those that the atom names.
-use Rattle.std.proofs.Common.{◌≡◌, ◌<◌, ◌+◌, ℕ, zero, suc, ◌⊎◌, inl, inr, ⊎_elim, Bool, true, false, cond, not, ◌&&◌, ◌||◌, List, [], ◌∷◌, ◌++◌, map, refl, ap, sym, ◌∙◌, subst, Option, Some, None, length, arith}
+use Rattle.std.proofs.Common.{◌≡◌, ◌<◌, ℕ, zero, suc, inl, inr, Bool, true, false, cond, ◌||◌, List, [], ◌∷◌, ◌++◌, map, refl, ap, sym, ◌∙◌, subst, Option, Some, None, length, arith}
 use Rattle.std.specs.Prelude.{slice_get, slice_index_or}
 use Rattle.std.specs.Option.{option_map}
 use Rattle.std.specs.declared.cmp.Ordering.{Ordering}
-use Rattle.std.specs.Ordering.{eq_by_cmp, is_eq}
+use Rattle.std.specs.Ordering.{is_eq}
 use Rattle.std.specs.Cmp.{IsTotalOrder, Equal-is, tied_itself}
 use Rattle.std.specs.FinMap.{IsAntisymmetric}
-use Rattle.std.specs.List.{list_any, list_all, filter, flat_map}
+use Rattle.std.specs.List.{list_all, filter, flat_map}
 use Rattle.std.proofs.lemmas.Bool.{true≢false, and_parts, and_from}
-use Rattle.std.proofs.lemmas.List.{length-append, append_assoc}
+use Rattle.std.proofs.lemmas.List.{append_assoc}
 use Rattle.dbn_value.specs.Members.{In}
-use Rattle.dbn_value.proofs.MemberLaws.{any_in, in_any, all_at, all_from, in_filter, filter_in, in_append, append_left, append_right}
+use Rattle.dbn_value.proofs.MemberLaws.{any_in, in_any, in_filter, filter_in}
 use Rattle.dbn_value.specs.Order.{rows_total, exact_rows, row_cmp}
 use Rattle.dbn_value.specs.declared.value.Value.{Value}
 use Rattle.dbn_value.specs.declared.term.Var.{Var}
@@ -18,19 +18,18 @@ use Rattle.dbn_value.specs.declared.term.Term.{Term}
 use Rattle.dbn_value.specs.declared.term.Term.TheVariants as term
 use Rattle.dbn_value.specs.declared.term.Cmp.TheVariants as cmp
 use Rattle.dbn_formula.specs.Variables.{var_eq, is_in}
-use Rattle.dbn_formula.specs.Holds.{Env, Agree, Instance, Domain, lookup, value_of, row_eq, holds_over}
-use Rattle.dbn_formula.specs.Free.{variable_of}
+use Rattle.dbn_formula.specs.Holds.{Env, Instance, Domain, lookup, value_of, row_eq, holds_over}
 use Rattle.dbn_formula.specs.Answers.{constant_of}
 use Rattle.dbn_formula.specs.declared.formula.Formula.TheVariants.{Atom}
 use Rattle.dbn_formula.proofs.HoldsLaws.{holds_atom}
-use Rattle.dbn_formula.proofs.VariableLaws.{var_same, var_itself, in_of_is, is_of_in}
+use Rattle.dbn_formula.proofs.VariableLaws.{var_same, var_itself, is_of_in}
 use Rattle.dbn_nodes.specs.Values.{passes, cells_meet}
 use Rattle.dbn_nodes.specs.declared.node.ColTest.{ColTest}
-use Rattle.dbn_plan.specs.Meaning.{Gives, IsRowOf, Means, Holds, LooksAt, vars_of}
+use Rattle.dbn_plan.specs.Meaning.{Gives, IsRowOf, Means, Holds, vars_of}
 pub use Rattle.dbn_plan.specs.Columns.{HaveCells}
-use Rattle.dbn_plan.specs.Columns.{position, constant_test, repeat_test, tests_after, pairs_from}
-use Rattle.dbn_plan.proofs.Rows.{some-injective, gives_alike, gives_one, gives_both, gives_agree, cell_at, rows_one}
-use Rattle.dbn_plan.proofs.NodeLaws.{entry_agrees, Pairs}
+use Rattle.dbn_plan.specs.Columns.{position, constant_test, repeat_test, tests_after}
+use Rattle.dbn_plan.proofs.Rows.{some-injective, gives_alike, gives_both, cell_at, rows_one}
+use Rattle.dbn_plan.proofs.NodeLaws.{entry_agrees}
 
 -- ---- positions
 

@@ -1,15 +1,13 @@
 -- The nodes that an atom adds.
-use Rattle.std.proofs.Common.{◌≡◌, ◌<◌, ◌+◌, ℕ, ℤ, zero, suc, ◌⊎◌, inl, inr, ⊎_elim, Bool, true, false, ◌&&◌, List, [], ◌∷◌, ◌++◌, map, refl, ap, sym, ◌∙◌, subst, Option, Some, None, length, arith}
+use Rattle.std.proofs.Common.{◌≡◌, ◌<◌, ℕ, ℤ, zero, suc, inl, inr, ⊎_elim, true, List, [], ◌∷◌, ◌++◌, map, refl, ap, sym, ◌∙◌, subst, Option, Some, None, length, arith}
 use Rattle.std.specs.Prelude.{slice_get, slice_index_or}
 use Rattle.std.specs.declared.cmp.Ordering.{Ordering}
 use Rattle.std.specs.List.{list_all, filter, flat_map}
 use Rattle.std.specs.Ordering.{nat_cmp}
 use Rattle.std.specs.BTreeMap.{get}
-use Rattle.std.proofs.Common.{◌*◌, ◌≤◌, false, eqb-true}
+use Rattle.std.proofs.Common.{◌*◌, ◌≤◌, eqb-true}
 use Rattle.std.proofs.lemmas.List.{length-append, append_assoc, length-map, get_or_past}
 use Rattle.std.proofs.lemmas.Option.{slice_get_within}
-use Rattle.dbn_nodes.specs.declared.node.ColTest.TheVariants as test
-use Rattle.dbn_value.specs.declared.term.Cmp.TheVariants as cmp
 use Rattle.std.proofs.lemmas.List.Concat.{flat_map-append}
 use Rattle.dbn_value.specs.Members.{In}
 use Rattle.dbn_value.proofs.MemberLaws.{in_append, append_left, append_right, none_from}
@@ -19,7 +17,7 @@ use Rattle.dbn_value.specs.declared.value.ColType.{ColType}
 use Rattle.dbn_value.specs.declared.term.Var.{Var}
 use Rattle.dbn_value.specs.declared.term.Term.{Term}
 use Rattle.dbn_value.specs.declared.term.Term.TheVariants as term
-use Rattle.dbn_formula.specs.Holds.{Env, Domain, Instance, value_of, row_eq, holds_over}
+use Rattle.dbn_formula.specs.Holds.{Domain, value_of, row_eq, holds_over}
 use Rattle.dbn_formula.proofs.HoldsLaws.{holds_atom}
 use Rattle.dbn_formula.proofs.SizeLaws.{size_atom}
 use Rattle.dbn_formula.proofs.ConstantsLaws.{constants_atom}
@@ -27,21 +25,20 @@ use Rattle.dbn_formula.proofs.TypingLaws.{arity_atom}
 use Rattle.dbn_formula.specs.Free.{occurrences, variable_of}
 use Rattle.dbn_formula.specs.Answers.{constant_of, constants}
 use Rattle.dbn_formula.specs.Typing.{Shapes, arity_fits}
-use Rattle.dbn_formula.specs.Ready.{RowIn, RowsIn}
+use Rattle.dbn_formula.specs.Ready.{RowIn}
 use Rattle.dbn_formula.specs.declared.formula.Formula.TheVariants.{Atom}
 use Rattle.dbn_formula.proofs.FreeLaws.{occurrences_atom}
 use Rattle.dbn_formula.proofs.Depends.{depends}
 use Rattle.dbn_formula.proofs.OrderOfParts.{Alike}
 use Rattle.dbn_formula.proofs.Arranged.{alike_same}
-use Rattle.dbn_nodes.specs.declared.node.Node.{Node}
 use Rattle.dbn_nodes.specs.declared.node.Node.TheVariants as node
 use Rattle.dbn_network.specs.Values.{val}
 use Rattle.dbn_nodes.specs.Values.{passes}
 use Rattle.dbn_network.specs.States.{State, Fits, TestIn, with_node, width_at, feed_widths, state_widths}
 use Rattle.dbn_nodes.specs.declared.node.ColTest.{ColTest}
-use Rattle.dbn_plan.specs.Meaning.{Holds, IsRowOf, Means, LooksAt, vars_of}
-use Rattle.dbn_plan.specs.Columns.{position, constant_test, repeat_test, test_of, tests_after, pair_with, pair_of, pairs_from}
-use Rattle.dbn_plan.specs.Compiled.{World, Stands, Fit, Compiled}
+use Rattle.dbn_plan.specs.Meaning.{IsRowOf, Means, vars_of}
+use Rattle.dbn_plan.specs.Columns.{position, constant_test, repeat_test, test_of, tests_after, pair_with, pairs_from}
+use Rattle.dbn_plan.specs.Compiled.{Stands}
 use Rattle.dbn_plan.specs.Making.{IsOpen, Grown, Placed, AreSources, IsReady, ScanMade, Selected, Joined, NoneMade, Made, rate}
 use Rattle.dbn_plan.specs.declared.sources.Sources.{Sources}
 use Rattle.dbn_plan.proofs.NodeLaws.{Pairs}

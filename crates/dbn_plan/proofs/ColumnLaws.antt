@@ -1,5 +1,5 @@
 -- Loops over labels and terms.
-use Rattle.std.proofs.Common.{◌≡◌, ◌<◌, ◌+◌, ◌≤◌, ℕ, zero, suc, ◌⊎◌, inl, inr, ⊎_elim, Bool, true, false, cond, List, [], ◌∷◌, ◌++◌, take, drop, refl, ap, sym, ◌∙◌, subst, Option, Some, None, length, get_or, arith}
+use Rattle.std.proofs.Common.{◌≡◌, ◌<◌, ◌+◌, ◌≤◌, ℕ, zero, suc, inl, ⊎_elim, true, false, cond, List, [], ◌∷◌, ◌++◌, take, drop, refl, ap, sym, ◌∙◌, subst, Option, Some, None, length, get_or, arith}
 use Rattle.std.specs.Prelude.{slice_get, ◌↔◌, IsTrue}
 use Rattle.std.specs.Ordering.{is_eq}
 use Rattle.std.specs.Cmp.{Equal-is, tied_itself}
@@ -9,15 +9,13 @@ use Rattle.dbn_formula.specs.Free.{variable_of}
 use Rattle.dbn_value.proofs.MemberLaws.{flat_in, in_at}
 use Rattle.dbn_plan.proofs.AtomLaws.{position_is, position_none}
 use Rattle.std.specs.Option.{option_map}
-use Rattle.std.specs.List.{filter}
-use Rattle.std.proofs.lemmas.Bool.{true≢false}
 use Rattle.std.proofs.lemmas.List.{append_assoc, drop_all, drop_more, take_more}
 use Rattle.dbn_value.specs.Members.{In}
 use Rattle.dbn_value.specs.declared.value.Value.{Value}
 use Rattle.dbn_value.specs.declared.term.Var.{Var}
 use Rattle.dbn_value.specs.declared.term.Term.{Term}
 use Rattle.dbn_value.specs.declared.term.Term.TheVariants as term
-use Rattle.dbn_formula.specs.Variables.{TypedVars, var_eq, is_in}
+use Rattle.dbn_formula.specs.Variables.{var_eq, is_in}
 use Rattle.dbn_nodes.specs.declared.node.ColTest.{ColTest}
 use Rattle.dbn_plan.specs.Meaning.{vars_of}
 use Rattle.dbn_plan.specs.Columns.{term_eq, position, test_of, tests_after, pair_of, pairs_from, with_vars, Labelled}

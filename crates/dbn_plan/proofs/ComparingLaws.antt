@@ -1,5 +1,5 @@
 -- Which terms are known, and the tests of a comparison.
-use Rattle.std.proofs.Common.{◌≡◌, ◌<◌, ℕ, ℤ, inl, inr, ⊎_elim, Bool, true, false, List, [], ◌∷◌, refl, ap, sym, ◌∙◌, subst, Option, Some, None}
+use Rattle.std.proofs.Common.{◌≡◌, ◌<◌, ℕ, ℤ, inl, ⊎_elim, true, List, [], ◌∷◌, refl, ap, sym, ◌∙◌, subst, Option, Some, None}
 use Rattle.std.specs.Prelude.{slice_get}
 use Rattle.std.specs.Option.{is_some}
 use Rattle.std.specs.declared.cmp.Ordering.{Ordering}

@@ -1,12 +1,11 @@
 -- The nodes that a comparison adds.
-use Rattle.std.proofs.Common.{◌≡◌, ◌<◌, ◌+◌, ◌*◌, ◌≤◌, ℕ, ℤ, ◌⊎◌, inl, inr, ⊎_elim, Bool, true, false, not, ◌&&◌, ◌||◌, List, [], ◌∷◌, ◌++◌, map, refl, ap, sym, ◌∙◌, subst, Option, Some, None, length, arith}
+use Rattle.std.proofs.Common.{◌≡◌, ◌<◌, ◌+◌, ◌*◌, ℕ, ℤ, ◌⊎◌, inl, inr, ⊎_elim, Bool, true, false, ◌&&◌, List, [], ◌∷◌, ◌++◌, refl, ap, sym, ◌∙◌, subst, Option, Some, length, arith}
 use Rattle.std.specs.Prelude.{slice_get}
 use Rattle.std.specs.declared.cmp.Ordering.{Ordering}
 use Rattle.std.specs.declared.cmp.Ordering.TheVariants.{Less, Equal, Greater}
 use Rattle.std.specs.Ordering.{is_eq, ordering_reverse}
 use Rattle.std.specs.Cmp.{Equal-is, tied_itself}
-use Rattle.std.specs.List.{list_all, flat_map}
-use Rattle.std.proofs.lemmas.Bool.{true≢false, and_parts, and_from, or_cases}
+use Rattle.std.proofs.lemmas.Bool.{true≢false, and_parts, or_cases}
 use Rattle.std.proofs.lemmas.List.{length-append}
 use Rattle.std.proofs.lemmas.List.Concat.{flat_map-append}
 use Rattle.std.proofs.lemmas.Option.{slice_get_within}
@@ -23,14 +22,13 @@ use Rattle.dbn_value.specs.declared.term.Term.{Term}
 use Rattle.dbn_value.specs.declared.term.Term.TheVariants as term
 use Rattle.dbn_value.specs.declared.term.Cmp.{Cmp}
 use Rattle.dbn_value.specs.declared.term.Cmp.TheVariants as cmp
-use Rattle.dbn_formula.specs.Variables.{TypedVars, is_in}
-use Rattle.dbn_formula.specs.Holds.{Env, Agree, lookup, value_of, holds_over}
+use Rattle.dbn_formula.specs.Variables.{TypedVars}
+use Rattle.dbn_formula.specs.Holds.{Env, value_of, holds_over}
 use Rattle.dbn_formula.specs.Free.{occurrences, variable_of}
-use Rattle.dbn_formula.specs.Answers.{constants, constant_of}
-use Rattle.dbn_formula.specs.Typing.{Shapes, term_type, agree, sides_fit, types_fit}
-use Rattle.dbn_formula.specs.Safe.{known, test_safe, safe_in_order}
-use Rattle.dbn_formula.specs.Size.{size}
-use Rattle.dbn_formula.specs.Ready.{IsValued, AreValued, ValuesIn}
+use Rattle.dbn_formula.specs.Answers.{constant_of}
+use Rattle.dbn_formula.specs.Typing.{Shapes, term_type, agree, sides_fit}
+use Rattle.dbn_formula.specs.Safe.{known, test_safe}
+use Rattle.dbn_formula.specs.Ready.{IsValued, AreValued}
 use Rattle.dbn_formula.specs.declared.formula.Formula.{Formula}
 use Rattle.dbn_formula.specs.declared.formula.Formula.TheVariants.{Test}
 use Rattle.dbn_formula.proofs.HoldsLaws.{holds_test}
@@ -43,7 +41,6 @@ use Rattle.dbn_formula.proofs.VariableLaws.{in_of_is, type_same}
 use Rattle.dbn_formula.proofs.Bounded.{valued_known}
 use Rattle.dbn_formula.proofs.Depends.{value_alike}
 use Rattle.dbn_formula.proofs.OrderOfParts.{Alike}
-use Rattle.dbn_nodes.specs.declared.node.Node.{Node}
 use Rattle.dbn_nodes.specs.declared.node.Node.TheVariants as node
 use Rattle.dbn_nodes.specs.declared.node.ColTest.{ColTest}
 use Rattle.dbn_nodes.specs.declared.node.ColTest.TheVariants as test
@@ -51,11 +48,11 @@ use Rattle.dbn_nodes.specs.declared.node.Added.{Added}
 use Rattle.dbn_nodes.specs.declared.node.Added.TheVariants as added
 use Rattle.dbn_nodes.specs.Values.{passes, selected, extended, added_cells}
 use Rattle.dbn_network.specs.Values.{val}
-use Rattle.dbn_network.specs.States.{State, Fits, AddedIn, TestIn, with_node, width_at, feed_widths, state_widths}
-use Rattle.dbn_plan.specs.Meaning.{Means, Gives, LooksAt, vars_of}
+use Rattle.dbn_network.specs.States.{State, Fits, with_node}
+use Rattle.dbn_plan.specs.Meaning.{Means, Gives, vars_of}
 use Rattle.dbn_plan.specs.Columns.{HaveCells}
-use Rattle.dbn_plan.specs.Compiled.{World, Stands, Fit}
-use Rattle.dbn_plan.specs.Making.{IsOpen, Grown, Placed, IsReady, Selected, NoneMade, Made, rate}
+use Rattle.dbn_plan.specs.Compiled.{World, Fit}
+use Rattle.dbn_plan.specs.Making.{Placed, IsReady, Selected, NoneMade, Made, rate}
 use Rattle.dbn_plan.specs.Comparing.{turned, Comparable, AddedFor, Equated, Compared}
 use Rattle.dbn_plan.proofs.Rows.{cell_at}
 use Rattle.dbn_plan.proofs.NodeLaws.{select_means, extend_means, means_alike}

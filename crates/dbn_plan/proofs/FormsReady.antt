@@ -1,12 +1,11 @@
 -- What is ready to be compiled, in its parts.
-use Rattle.std.proofs.Common.{◌≡◌, ◌<◌, ℕ, inl, inr, ⊎_elim, Bool, true, false, not, ◌&&◌, List, [], ◌∷◌, map, refl, ap, sym, ◌∙◌, subst, Option, Some, length}
-use Rattle.std.specs.List.{list_any, list_all, filter, flat_map}
+use Rattle.std.proofs.Common.{◌≡◌, true, not, List, sym, ◌∙◌, subst, Option}
+use Rattle.std.specs.List.{list_any}
 use Rattle.std.proofs.lemmas.Bool.{true≢false, and_parts}
 use Rattle.dbn_value.specs.Members.{In}
 use Rattle.dbn_value.proofs.MemberLaws.{all_at, flat_in}
 use Rattle.dbn_value.specs.declared.value.Value.{Value}
 use Rattle.dbn_value.specs.declared.term.Var.{Var}
-use Rattle.dbn_value.specs.declared.term.Term.{Term}
 use Rattle.dbn_formula.specs.Variables.{TypedVars, binds}
 use Rattle.dbn_formula.specs.Free.{occurrences}
 use Rattle.dbn_formula.specs.Answers.{constants}
@@ -17,7 +16,6 @@ use Rattle.dbn_formula.specs.declared.formula.Formula.TheVariants.{And, Or, Not,
 use Rattle.dbn_formula.proofs.ConstantsLaws.{constants_and, constants_or, constants_not, constants_exists}
 use Rattle.dbn_formula.proofs.TypingLaws.{arity_and, arity_or, arity_not, arity_exists}
 use Rattle.dbn_formula.proofs.SafeLaws.{in_order_not, in_order_implies, in_order_exists, in_order_forall}
-use Rattle.dbn_plan.specs.Meaning.{vars_of}
 use Rattle.dbn_plan.specs.Making.{IsReady}
 use Rattle.dbn_plan.proofs.MadeLaws.{part_safe}
 

@@ -1,55 +1,45 @@
 -- What each form of formula makes of a node that stands.
-use Rattle.std.proofs.Common.{◌≡◌, ◌<◌, ◌+◌, ℕ, ℤ, zero, suc, ◌⊎◌, inl, inr, ⊎_elim, Bool, true, false, cond, not, ◌&&◌, ◌||◌, List, [], ◌∷◌, ◌++◌, map, refl, ap, sym, ◌∙◌, subst, Option, Some, None, length, arith}
-use Rattle.std.specs.Prelude.{slice_get, slice_index_or}
+use Rattle.std.proofs.Common.{◌≡◌, ◌<◌, ℕ, ℤ, inl, ⊎_elim, Bool, true, false, not, ◌&&◌, ◌||◌, List, [], ◌∷◌, ◌++◌, map, refl, ap, sym, ◌∙◌, subst, Option, Some, length}
 use Rattle.std.specs.declared.cmp.Ordering.{Ordering}
-use Rattle.std.specs.Ordering.{is_eq, int_cmp}
-use Rattle.std.specs.Cmp.{Equal-is, tied_itself, both_ways}
-use Rattle.std.specs.List.{list_any, list_all, filter, flat_map, AllByRecursion}
-use Rattle.std.proofs.lemmas.Bool.{true≢false, and_parts, and_from, or_cases, or_left, or_right, not-true, not_from_false, false_from_ne_true}
-use Rattle.std.proofs.lemmas.List.Concat.{flat_map-append}
+use Rattle.std.specs.List.{list_any, list_all, flat_map, AllByRecursion}
+use Rattle.std.proofs.lemmas.Bool.{true≢false, and_parts, and_from, or_cases, or_right, not-true, not_from_false, false_from_ne_true}
 use Rattle.dbn_value.specs.Members.{In}
-use Rattle.dbn_value.proofs.MemberLaws.{any_in, in_any, all_at, all_from, in_filter, filter_in, in_append, append_left, append_right, fails_at, recursion_from, recursion_at}
-use Rattle.dbn_value.specs.Order.{value_cmp, value_type, value_int, value_total, exact_values}
+use Rattle.dbn_value.proofs.MemberLaws.{all_at, all_from, append_left, append_right, fails_at, recursion_from}
 use Rattle.dbn_value.specs.declared.value.Value.{Value}
 use Rattle.dbn_value.specs.declared.value.ColType.{ColType}
-use Rattle.dbn_value.specs.declared.value.ColType.TheVariants as col
 use Rattle.dbn_value.specs.declared.term.Var.{Var}
 use Rattle.dbn_value.specs.declared.term.Term.{Term}
 use Rattle.dbn_value.specs.declared.term.Term.TheVariants as term
-use Rattle.dbn_value.specs.declared.term.Cmp.{Cmp}
-use Rattle.dbn_value.specs.declared.term.Cmp.TheVariants as cmp
 use Rattle.dbn_formula.specs.Variables.{TypedVars, var_eq, is_in, binds}
-use Rattle.dbn_formula.specs.Holds.{Env, Agree, Instance, Domain, lookup, value_of, holds_over, some_choice}
-use Rattle.dbn_formula.specs.Holds as values
-use Rattle.dbn_formula.specs.Free.{variable_of, occurrences, unhidden}
+use Rattle.dbn_formula.specs.Holds.{Env, Agree, Domain, lookup, holds_over}
+use Rattle.dbn_formula.specs.Free.{occurrences}
 use Rattle.dbn_formula.specs.Answers.{constants}
 use Rattle.dbn_formula.specs.Typing.{Shapes, types_fit, entered}
 use Rattle.dbn_formula.specs.Distinct.{distinct, distinct_vars}
 use Rattle.dbn_formula.specs.Safe.{safe_in_order, in_turn, as_level, all_in}
 use Rattle.dbn_formula.specs.Solve.{is_bound, is_empty}
-use Rattle.dbn_formula.specs.Ready.{IsValued, AreValued, RowsIn, ValuesIn}
+use Rattle.dbn_formula.specs.Ready.{IsValued, AreValued}
 use Rattle.dbn_formula.specs.declared.formula.Formula.{Formula}
-use Rattle.dbn_formula.specs.declared.formula.Formula.TheVariants.{Atom, Test, And, Or, Not, Exists}
-use Rattle.dbn_formula.proofs.HoldsLaws.{holds_test, holds_and, holds_or, holds_not, holds_exists}
-use Rattle.dbn_formula.proofs.FreeLaws.{occurrences_atom, occurrences_test, occurrences_and, occurrences_or, occurrences_not, occurrences_exists}
-use Rattle.dbn_formula.proofs.ConstantsLaws.{constants_and, constants_or, constants_not, constants_exists}
-use Rattle.dbn_formula.proofs.TypingLaws.{types_and, types_or, types_not, types_exists}
-use Rattle.dbn_formula.proofs.DistinctLaws.{distinct_and, distinct_or, distinct_not, distinct_exists}
-use Rattle.dbn_formula.proofs.SafeLaws.{in_order_test, in_order_and, in_order_or, in_order_not, in_order_exists}
+use Rattle.dbn_formula.specs.declared.formula.Formula.TheVariants.{And, Not, Exists}
+use Rattle.dbn_formula.proofs.HoldsLaws.{holds_and, holds_not, holds_exists}
+use Rattle.dbn_formula.proofs.FreeLaws.{occurrences_and, occurrences_not}
+use Rattle.dbn_formula.proofs.ConstantsLaws.{constants_and, constants_not, constants_exists}
+use Rattle.dbn_formula.proofs.TypingLaws.{types_and, types_not, types_exists}
+use Rattle.dbn_formula.proofs.DistinctLaws.{distinct_and, distinct_not, distinct_exists}
+use Rattle.dbn_formula.proofs.SafeLaws.{in_order_and, in_order_not, in_order_exists}
 use Rattle.dbn_formula.proofs.Depends.{depends}
 use Rattle.dbn_formula.proofs.Bounded.{bounded, joined, inner_scope}
-use Rattle.dbn_formula.proofs.Choices.{Chosen, choice_out, KeepsValues, Choice, choice_in, entered_own, entered_binds, valued_inside, valued_outside}
+use Rattle.dbn_formula.proofs.Choices.{choice_out, Choice, choice_in, entered_own, entered_binds, valued_inside}
 use Rattle.dbn_formula.proofs.OrderOfParts.{Alike}
-use Rattle.dbn_formula.proofs.Arranged.{in_order_alike, alike_append, alike_self, alike_then, alike_same}
-use Rattle.dbn_formula.proofs.VariableLaws.{in_of_is, is_of_in, in_bound, in_unhidden, unhidden_in, var_itself, var_same}
+use Rattle.dbn_formula.proofs.Arranged.{in_order_alike, alike_append, alike_self}
+use Rattle.dbn_formula.proofs.VariableLaws.{in_of_is, is_of_in, in_bound}
 use Rattle.dbn_nodes.specs.declared.node.Node.{Node}
 use Rattle.dbn_network.specs.Values.{val}
-use Rattle.dbn_nodes.specs.Values.{joined as joined_rows, without, projected, either}
+use Rattle.dbn_nodes.specs.Values.{without}
 use Rattle.dbn_plan.proofs.Places.{val_stays}
-use Rattle.dbn_plan.specs.Meaning.{Holds, Gives, Means, LooksAt, vars_of}
+use Rattle.dbn_plan.specs.Meaning.{Means, LooksAt, vars_of}
 use Rattle.dbn_plan.specs.Compiled.{World, Stands, Fit, Compiled}
-use Rattle.dbn_plan.proofs.Rows.{Labelled}
-use Rattle.dbn_plan.proofs.NodeLaws.{Pairs, means_alike, join_means, diff_means, project_means, union_means, over, over_own}
+use Rattle.dbn_plan.proofs.NodeLaws.{means_alike, diff_means, over, over_own}
 
 -- ---- truth
 

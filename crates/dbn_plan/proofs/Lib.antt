@@ -11,6 +11,7 @@ pub mod Places
 pub mod RoomLaws
 pub mod Rows
 pub mod ScanLaws
+pub mod SentenceLaws
 pub mod StepLaws
 pub mod StepsMade
 pub mod TestLaws

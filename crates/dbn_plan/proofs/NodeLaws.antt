@@ -1,5 +1,5 @@
 -- What each kind of node makes of rows that mean something.
-use Rattle.std.proofs.Common.{◌≡◌, ◌<◌, ℕ, zero, suc, ◌⊎◌, inl, inr, ⊎_elim, Bool, true, false, cond, not, ◌&&◌, ◌||◌, List, [], ◌∷◌, ◌++◌, map, refl, ap, sym, ◌∙◌, subst, Option, Some, None, length}
+use Rattle.std.proofs.Common.{◌≡◌, ℕ, inl, ⊎_elim, Bool, true, false, cond, not, ◌&&◌, ◌||◌, List, [], ◌∷◌, ◌++◌, map, refl, ap, sym, ◌∙◌, subst, Option, Some}
 use Rattle.std.specs.Prelude.{slice_get}
 use Rattle.std.specs.declared.cmp.Ordering.{Ordering}
 use Rattle.std.specs.Ordering.{eq_by_cmp, is_eq}
@@ -10,8 +10,7 @@ use Rattle.std.specs.List.{list_any, list_all, filter, flat_map}
 use Rattle.std.proofs.lemmas.Bool.{true≢false, and_parts, and_from, or_cases, or_left, or_right, not-true, not_from_false, false_from_ne_true}
 use Rattle.dbn_value.specs.Members.{In}
 use Rattle.dbn_value.specs.Picked.{picked}
-use Rattle.dbn_value.specs.Ascending.{ascending}
-use Rattle.dbn_value.proofs.MemberLaws.{any_in, in_any, all_at, all_from, in_filter, filter_in, in_append, append_left, append_right, in_map, map_in, in_flat, flat_in, fails_at, none_from}
+use Rattle.dbn_value.proofs.MemberLaws.{any_in, in_any, all_at, all_from, in_filter, filter_in, in_append, append_left, append_right, in_map, map_in, in_flat, flat_in}
 use Rattle.dbn_value.proofs.AscendingLaws.{in_ascending, ascending_in, in_images, images_in}
 use Rattle.dbn_value.specs.declared.value.Value.{Value}
 use Rattle.dbn_value.specs.declared.term.Var.{Var}
@@ -19,14 +18,13 @@ use Rattle.dbn_value.specs.declared.term.Term.{Term}
 use Rattle.dbn_value.specs.declared.term.Term.TheVariants as term
 use Rattle.dbn_formula.specs.Variables.{var_eq, is_in}
 use Rattle.dbn_formula.specs.Holds.{Env, Agree, lookup, value_of}
-use Rattle.dbn_formula.specs.Free.{variable_of}
 use Rattle.dbn_formula.proofs.VariableLaws.{var_same, var_itself, in_of_is, is_of_in}
 use Rattle.dbn_nodes.specs.Values.{matched, joined, without, projected, either, extended, added_cells, passes, cells_meet}
 use Rattle.dbn_nodes.specs.declared.node.ColTest.{ColTest}
 use Rattle.dbn_nodes.specs.declared.node.Added.{Added}
 use Rattle.dbn_value.specs.declared.term.Cmp.TheVariants as cmp
-use Rattle.dbn_plan.specs.Meaning.{Gives, IsRowOf, Means, LooksAt, vars_of}
-use Rattle.dbn_plan.proofs.Rows.{some-injective, gives_alike, gives_one, gives_both, gives_agree, gives_picked, cell_at, Labelled, cells_same}
+use Rattle.dbn_plan.specs.Meaning.{Gives, Means, LooksAt, vars_of}
+use Rattle.dbn_plan.proofs.Rows.{some-injective, gives_alike, gives_one, gives_both, gives_agree, gives_picked, cell_at, Labelled}
 
 -- each pair is two columns with the label of one variable, and each variable that both inputs have is among the pairs
 pub record Pairs (on : List (ℕ × ℕ)) (labels others : List Term) : Type 0 where

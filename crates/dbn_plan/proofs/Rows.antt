@@ -1,21 +1,15 @@
 -- Rows of cells against environments.
-use Rattle.std.proofs.Common.{◌≡◌, ◌<◌, ℕ, zero, suc, ◌⊎◌, inl, inr, ⊎_elim, Bool, true, false, cond, not, ◌&&◌, ◌||◌, List, [], ◌∷◌, ◌++◌, map, refl, ap, sym, ◌∙◌, subst, Option, Some, None, length}
+use Rattle.std.proofs.Common.{◌≡◌, ℕ, zero, suc, inl, inr, ⊎_elim, List, [], ◌∷◌, ◌++◌, map, refl, ap, sym, ◌∙◌, subst, Option, Some, None}
 use Rattle.std.specs.Prelude.{slice_get}
-use Rattle.std.specs.Option.{option_map}
-use Rattle.std.specs.List.{flat_map}
-use Rattle.std.proofs.lemmas.Bool.{true≢false}
-use Rattle.std.proofs.lemmas.Option.{slice_get-map}
 use Rattle.std.specs.Option.{unwrap_or}
-use Rattle.dbn_value.specs.Members.{In}
-use Rattle.dbn_value.proofs.MemberLaws.{in_append, append_left, append_right}
+use Rattle.dbn_value.proofs.MemberLaws.{in_append}
 use Rattle.dbn_value.specs.Picked.{picked}
 use Rattle.dbn_value.specs.declared.value.Value.{Value}
-use Rattle.dbn_value.specs.declared.term.Var.{Var}
 use Rattle.dbn_value.specs.declared.term.Term.{Term}
 use Rattle.dbn_value.specs.declared.term.Term.TheVariants as term
 use Rattle.dbn_formula.specs.Holds.{Env, Agree, lookup, value_of}
 use Rattle.dbn_formula.specs.Free.{variable_of}
-use Rattle.dbn_formula.proofs.Depends.{values_alike, value_alike, agree_left, agree_right}
+use Rattle.dbn_formula.proofs.Depends.{value_alike, agree_left, agree_right}
 use Rattle.dbn_plan.specs.Meaning.{Gives, IsRowOf, vars_of}
 pub use Rattle.dbn_plan.specs.Columns.{Labelled}
 

@@ -1,5 +1,5 @@
 -- Steps of compiling, one after the other.
-use Rattle.std.proofs.Common.{◌≡◌, ◌<◌, ◌≤◌, ◌+◌, ◌*◌, Some, ℕ, ℤ, ◌⊎◌, inl, inr, ⊎_elim, Bool, true, false, ◌&&◌, List, [], ◌∷◌, ◌++◌, map, refl, ap, sym, ◌∙◌, subst, Option, length, arith}
+use Rattle.std.proofs.Common.{◌≡◌, ◌<◌, ◌≤◌, ◌+◌, ◌*◌, Some, ℕ, ℤ, true, List, [], ◌∷◌, ◌++◌, map, refl, ap, sym, ◌∙◌, subst, Option, length, arith}
 use Rattle.std.specs.declared.cmp.Ordering.{Ordering}
 use Rattle.std.specs.List.{list_all, flat_map}
 use Rattle.std.specs.Prelude.{slice_get}
@@ -31,7 +31,7 @@ use Rattle.dbn_plan.specs.Meaning.{vars_of}
 use Rattle.dbn_plan.specs.Compiled.{Compiled}
 use Rattle.dbn_plan.specs.declared.sources.Sources.{Sources}
 use Rattle.dbn_plan.specs.Columns.{HaveCells}
-use Rattle.dbn_plan.specs.Making.{IsOpen, Grown, Placed, AreSources, IsReady, Labels, Made, rate}
+use Rattle.dbn_plan.specs.Making.{IsOpen, Grown, Placed, AreSources, IsReady, Made, rate}
 use Rattle.dbn_plan.proofs.FormulaLaws.{CompiledAll, all_none, all_step, and_compiled, turn_alike}
 
 module _ {C : Type 0} where

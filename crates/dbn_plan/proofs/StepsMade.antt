@@ -1,31 +1,26 @@
 -- The steps that every form of formula is made of: a selection, a join, a projection, and no rows.
-use Rattle.std.proofs.Common.{◌≡◌, ◌<◌, ◌+◌, ◌≤◌, ℕ, ℤ, zero, suc, ◌⊎◌, inl, inr, ⊎_elim, Bool, true, false, not, ◌&&◌, List, [], ◌∷◌, ◌++◌, refl, ap, sym, ◌∙◌, subst, Option, Some, None, length, arith}
+use Rattle.std.proofs.Common.{◌≡◌, ◌<◌, ◌+◌, ℕ, ℤ, suc, inl, inr, true, not, ◌&&◌, List, [], ◌∷◌, ◌++◌, refl, ap, sym, ◌∙◌, subst, Option, Some, length, arith}
 use Rattle.std.specs.Prelude.{slice_get}
 use Rattle.std.specs.declared.cmp.Ordering.{Ordering}
-use Rattle.std.specs.List.{list_all, filter, flat_map}
-use Rattle.std.proofs.lemmas.Bool.{true≢false, and_from, not-true}
+use Rattle.std.proofs.lemmas.Bool.{true≢false, not-true}
 use Rattle.std.proofs.lemmas.List.{length-append}
 use Rattle.std.proofs.lemmas.Option.{slice_get_within}
 use Rattle.dbn_value.specs.Members.{In}
-use Rattle.dbn_value.specs.Coding.{IsCoding}
 use Rattle.dbn_value.proofs.MemberLaws.{filter_all, in_filter}
-use Rattle.dbn_value.specs.declared.value.Value.{Value}
-use Rattle.dbn_value.specs.declared.term.Var.{Var}
 use Rattle.dbn_value.specs.declared.term.Term.{Term}
 use Rattle.dbn_value.specs.declared.term.Term.TheVariants as term
-use Rattle.dbn_formula.specs.Holds.{Env, Agree}
-use Rattle.dbn_nodes.specs.declared.node.Node.{Node}
+use Rattle.dbn_formula.specs.Holds.{Env}
 use Rattle.dbn_nodes.specs.declared.node.Node.TheVariants as node
 use Rattle.dbn_nodes.specs.declared.node.ColTest.{ColTest}
 use Rattle.dbn_nodes.specs.Tables.{has}
-use Rattle.dbn_nodes.specs.Values.{passes, selected, joined, without, projected}
+use Rattle.dbn_nodes.specs.Values.{selected, joined}
 use Rattle.std.specs.Cmp.Lexicographic.{slice_cmp}
 use Rattle.dbn_network.specs.Values.{val}
 use Rattle.dbn_network.specs.States.{State, Fits, TestIn, state_widths, width_at, feed_widths, with_node}
 use Rattle.dbn_plan.specs.declared.sources.Sources.{Sources}
-use Rattle.dbn_plan.specs.Meaning.{Means, LooksAt, Gives, vars_of}
-use Rattle.dbn_plan.specs.Columns.{Labelled, pairs_from}
-use Rattle.dbn_plan.specs.Making.{IsOpen, Grown, Placed, AreSources, Selected, Joined, Shown, NoneMade, IsProjection}
+use Rattle.dbn_plan.specs.Meaning.{Means, vars_of}
+use Rattle.dbn_plan.specs.Columns.{Labelled}
+use Rattle.dbn_plan.specs.Making.{Placed, AreSources, Selected, Joined, Shown, NoneMade, IsProjection}
 use Rattle.dbn_plan.proofs.Places.{val_unit, width_unit, there_last}
 use Rattle.dbn_plan.proofs.Rows.{gives_alike}
 use Rattle.dbn_plan.proofs.NodeLaws.{Pairs, project_means, join_means, means_alike, in_row}

@@ -1,10 +1,9 @@
 -- A test of two columns is the comparison of the values that their labels have.
-use Rattle.std.proofs.Common.{◌≡◌, ◌<◌, ℕ, ℤ, ◌⊎◌, inl, inr, ⊎_elim, Bool, true, false, not, ◌&&◌, List, [], ◌∷◌, ◌++◌, map, refl, ap, sym, ◌∙◌, subst, Option, Some, None, IsSome}
+use Rattle.std.proofs.Common.{◌≡◌, ℕ, ℤ, true, not, List, refl, ap, sym, ◌∙◌, subst, Option, Some, None, IsSome}
 use Rattle.std.specs.Prelude.{slice_get}
 use Rattle.std.specs.declared.cmp.Ordering.{Ordering}
-use Rattle.std.specs.Ordering.{is_eq, int_cmp}
-use Rattle.std.specs.Cmp.{IsTotalOrder, Equal-is, tied_itself, both_ways}
-use Rattle.std.specs.FinMap.{IsAntisymmetric}
+use Rattle.std.specs.Ordering.{is_eq}
+use Rattle.std.specs.Cmp.{Equal-is, tied_itself, both_ways}
 use Rattle.std.proofs.lemmas.Bool.{true≢false}
 use Rattle.dbn_value.specs.Order.{meets, value_cmp, value_type, value_int, value_total, exact_values, ints_have_numbers, ints_by_number}
 use Rattle.dbn_value.specs.declared.value.Value.{Value}

@@ -1,5 +1,5 @@
 -- What a compiled query is worth: in cells of any coder that has grown from this one, its rows are the answers.
-use Rattle.std.specs.Prelude.{◌≡◌, ◌<◌, ◌≤◌, ◌+◌, ◌*◌, ℕ, ℤ, Bool, true, List, [], length, Option, map}
+use Rattle.std.specs.Prelude.{◌≡◌, ◌≤◌, ◌+◌, ◌*◌, ℕ, ℤ, Bool, true, List, [], length, Option, map}
 use Rattle.std.specs.declared.cmp.Ordering.{Ordering}
 use Rattle.dbn_value.specs.Members.{In}
 use Rattle.dbn_value.specs.Coding.{Extends, IsCoding}

@@ -1,5 +1,5 @@
 -- Which column has which label, and what an atom asks of the columns of its relation.
-use Rattle.std.specs.Prelude.{Bool, false, ℕ, zero, suc, if◌then◌else◌, List, [], ◌∷◌, ◌++◌, length, Option, Some, None, ◌≡◌, slice_get}
+use Rattle.std.specs.Prelude.{Bool, false, ℕ, suc, if◌then◌else◌, List, [], ◌∷◌, ◌++◌, length, Option, Some, None, ◌≡◌, slice_get}
 use Rattle.std.specs.Option.{option_map}
 use Rattle.dbn_value.specs.declared.value.Value.{Value}
 use Rattle.dbn_value.specs.declared.term.Var.{Var}

@@ -1,5 +1,5 @@
 -- What compiling a formula behind a node means, for every instance that the feeds may hold.
-use Rattle.std.specs.Prelude.{◌≡◌, ◌<◌, ℕ, ℤ, Bool, true, ◌&&◌, List, [], ◌∷◌, ◌++◌, length, Option, Some, ◌⊎◌, slice_index_or}
+use Rattle.std.specs.Prelude.{◌≡◌, ◌<◌, ℕ, ℤ, Bool, true, ◌&&◌, List, [], length, Option, ◌⊎◌, slice_index_or}
 use Rattle.std.specs.declared.cmp.Ordering.{Ordering}
 use Rattle.dbn_value.specs.Members.{In}
 use Rattle.dbn_value.specs.Coding.{Extends, IsCoding}

@@ -1,5 +1,5 @@
 -- Whether the domain of a type has a value: where the formula writes one, or some relation with such a column has a row.
-use Rattle.std.specs.Prelude.{◌≡◌, ◌≤◌, ◌+◌, ◌*◌, ℕ, ℤ, zero, suc, Bool, false, not, List, [], ◌||◌, ◌&&◌, length, map, take, Option, slice_index_or}
+use Rattle.std.specs.Prelude.{◌≤◌, ◌+◌, ◌*◌, ℕ, ℤ, zero, suc, Bool, false, not, List, [], ◌||◌, ◌&&◌, length, take, Option, slice_index_or}
 use Rattle.std.specs.declared.cmp.Ordering.{Ordering}
 use Rattle.std.specs.List.{list_any}
 use Rattle.dbn_value.specs.Order.{value_type, type_eq}

@@ -1,10 +1,10 @@
 -- What a step of compiling leaves of the network, and the node that it makes. R is the order of cells.
-use Rattle.std.specs.Prelude.{◌≡◌, ◌<◌, ◌≤◌, ◌+◌, ◌*◌, ℕ, ℤ, Bool, true, false, List, [], ◌++◌, length, Option, Some, map, not, ◌||◌, ◌&&◌, slice_get, ◌⊎◌}
+use Rattle.std.specs.Prelude.{◌≡◌, ◌<◌, ◌≤◌, ◌+◌, ◌*◌, ℕ, ℤ, Bool, true, false, List, ◌++◌, length, Option, Some, map, not, ◌||◌, ◌&&◌, slice_get, ◌⊎◌}
 use Rattle.std.specs.declared.cmp.Ordering.{Ordering}
 use Rattle.std.specs.Ordering.{nat_cmp}
 use Rattle.std.specs.BTreeMap.{get}
 use Rattle.std.specs.BTreeMap.{BTreeMap}
-use Rattle.std.specs.List.{list_any, list_all, flat_map}
+use Rattle.std.specs.List.{list_any, list_all}
 use Rattle.dbn_value.specs.Members.{In}
 use Rattle.dbn_value.specs.Coding.{IsCoding}
 use Rattle.dbn_value.specs.declared.value.Value.{Value}
@@ -12,7 +12,7 @@ use Rattle.dbn_value.specs.declared.value.ColType.{ColType}
 use Rattle.dbn_value.specs.declared.term.Var.{Var}
 use Rattle.dbn_value.specs.declared.term.Term.{Term}
 use Rattle.dbn_value.specs.declared.term.Term.TheVariants as term
-use Rattle.dbn_formula.specs.Variables.{TypedVars, is_in, binds}
+use Rattle.dbn_formula.specs.Variables.{TypedVars, is_in}
 use Rattle.dbn_formula.specs.Holds.{Env, Agree, holds_over}
 use Rattle.dbn_formula.specs.Free.{occurrences}
 use Rattle.dbn_formula.specs.Answers.{constants}

@@ -6,7 +6,7 @@ use Rattle.dbn_value.specs.Members.{In}
 use Rattle.dbn_value.specs.declared.value.Value.{Value}
 use Rattle.dbn_value.specs.declared.term.Var.{Var}
 use Rattle.dbn_value.specs.declared.term.Term.{Term}
-use Rattle.dbn_formula.specs.Holds.{Env, Instance, Agree, lookup, value_of}
+use Rattle.dbn_formula.specs.Holds.{Env, Instance, Agree, value_of}
 use Rattle.dbn_formula.specs.Free.{variable_of}
 
 module _ {C : Type 0} where

@@ -7,10 +7,12 @@ mod comparison;
 mod context;
 mod forms;
 mod labels;
+mod laws;
 mod room;
 mod scans;
 mod sources;
 mod steps;
 mod top;
 
+pub use laws::sentences_are_queries;
 pub use top::compile;

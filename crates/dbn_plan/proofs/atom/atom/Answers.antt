@@ -1,4 +1,4 @@
-use Rattle.std.proofs.Common.{◌≡◌, ◌≤◌, ap, length, arith}
+use Rattle.std.proofs.Common.{◌≤◌, ap, length, arith}
 use Rattle.dbn_plan.proofs.AtomMade.{atom_past}
 use Rattle.dbn_plan.proofs.atom.atom.Goals as goal
 

@@ -1,6 +1,5 @@
 use Rattle.std.proofs.Common.{[], ap, ◌∙◌}
 use Rattle.dbn_plan.specs.Columns.{tests_after}
-use Rattle.dbn_plan.specs.Making.{Placed}
 use Rattle.dbn_plan.proofs.StepLaws.{open_after, placed_after, sources_after, grown_then}
 use Rattle.dbn_plan.proofs.AtomMade.{scan_placed, select_names, atom_arity, atom_made}
 use Rattle.dbn_plan.proofs.atom.atom_there.Goals as goal

@@ -1,6 +1,5 @@
-use Rattle.std.proofs.Common.{◌≡◌, refl, sym, subst, true, inl, ap}
+use Rattle.std.proofs.Common.{◌≡◌, refl, sym, subst, true, inl}
 use Rattle.dbn_value.specs.Members.{In}
-use Rattle.dbn_value.specs.declared.term.Term.TheVariants as term
 use Rattle.dbn_formula.specs.Safe.{known}
 use Rattle.dbn_formula.specs.Answers.{constant_of}
 use Rattle.dbn_plan.specs.Meaning.{vars_of}

@@ -1,4 +1,4 @@
-use Rattle.std.proofs.Common.{◌≡◌, ◌++◌, [], ◌∷◌, sym, ap, ◌∙◌, subst}
+use Rattle.std.proofs.Common.{◌++◌, [], ◌∷◌, ap, ◌∙◌, subst}
 use Rattle.dbn_plan.specs.Comparing.{AddedFor}
 use Rattle.dbn_plan.proofs.ComparisonMade.{extend_fits, equated_made}
 use Rattle.dbn_plan.proofs.comparison.equal_to.Goals as goal

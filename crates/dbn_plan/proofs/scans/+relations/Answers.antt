@@ -1,4 +1,4 @@
-use Rattle.std.proofs.Common.{◌≡◌, ◌+◌, ◌≤◌, length, arith}
+use Rattle.std.proofs.Common.{arith}
 use Rattle.std.proofs.lemmas.Result.{on_ok_weaker}
 use Rattle.dbn_plan.proofs.ScanLaws.{total_more, one_relation}
 use Rattle.dbn_plan.proofs.scans.+relations.Goals as goal

@@ -1,6 +1,5 @@
-use Rattle.std.proofs.Common.{◌≤◌, ◌+◌, length, map, take, sum_by}
+use Rattle.std.proofs.Common.{◌≤◌, ◌+◌, length, map, take}
 use Rattle.dbn_formula.specs.Size.{total, size}
-use Rattle.dbn_formula.proofs.Weights.{weight}
 use Rattle.dbn_plan.proofs.scans.+relations.Given as goal
 
 abbrev pub invariant-add_all-loop-part : goal.invariant-add_all-loop-part

@@ -1,4 +1,4 @@
-use Rattle.dbn_plan.proofs.AtomMade.{scan_fits, scan_found, scan_made}
+use Rattle.dbn_plan.proofs.AtomMade.{scan_fits, scan_made}
 use Rattle.dbn_plan.proofs.sources.scan_of.Goals as goal
 
 pub add-requires-clause-fits : goal.add-requires-clause-fits

@@ -1,6 +1,4 @@
-use Rattle.std.proofs.Common.{◌≡◌, ◌++◌, ap, sym, ◌∙◌, subst}
-use Rattle.dbn_plan.specs.Columns.{pairs_from}
-use Rattle.dbn_plan.proofs.NodeLaws.{Pairs}
+use Rattle.std.proofs.Common.{◌++◌, ap, ◌∙◌}
 use Rattle.dbn_plan.proofs.AtomMade.{pairs_shared}
 use Rattle.dbn_plan.proofs.StepsMade.{join_fits, joined_made}
 use Rattle.dbn_plan.proofs.steps.join_behind.Goals as goal

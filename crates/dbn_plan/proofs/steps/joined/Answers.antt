@@ -1,4 +1,3 @@
-use Rattle.std.proofs.Common.{◌≡◌}
 use Rattle.dbn_plan.proofs.StepsMade.{joined_unit}
 use Rattle.dbn_plan.proofs.steps.joined.Goals as goal
 

@@ -1,6 +1,5 @@
-use Rattle.std.proofs.Common.{◌≡◌, sym, subst}
+use Rattle.std.proofs.Common.{sym, subst}
 use Rattle.dbn_value.specs.Members.{In}
-use Rattle.dbn_plan.specs.Columns.{Labelled}
 use Rattle.dbn_plan.proofs.StepsMade.{project_fits, shown_made, projection_made, labelled_as}
 use Rattle.dbn_plan.proofs.steps.projected.Goals as goal
 

@@ -1,4 +1,4 @@
-use Rattle.std.proofs.Common.{◌≡◌, ◌∙◌, sym}
+use Rattle.std.proofs.Common.{◌∙◌, sym}
 use Rattle.dbn_plan.proofs.StepsMade.{shown_same}
 use Rattle.dbn_plan.proofs.steps.shown.Goals as goal
 
