@@ -244,11 +244,19 @@ module _ {C : Type 0} {R : C → C → Ordering} {int_of : C → Option ℤ} {ce
   filled [] e = absurd (true≢false e)
   filled (y ∷ ys) e = (y, inl refl)
 
-  room_is : (vars : TypedVars) (f : Formula) → has_room vars f ≡ true → Room vars f
+  pub room_is : (vars : TypedVars) (f : Formula) → has_room vars f ≡ true → Room vars f
   unfolding Room
   room_is vars f e y at free =
       let test = all_at (λ z. is_in z.0 (occurrences f) || not (is_empty (w.dom z.1))) y vars e at in
       filled (w.dom y.1) (not-true (is_empty (w.dom y.1)) (⊎_elim (λ here. absurd (true≢false (sym here ∙ free))) (λ there. there) (or_cases (is_in y.0 (occurrences f)) (not (is_empty (w.dom y.1))) test)))
+
+  -- the values of the variables are in their domains
+  pub room_chosen : (vars scope : TypedVars) (f : Formula) (s : Env) → distinct_vars vars ≡ true → ((x : Var) → binds vars x ≡ true → IsValued w.dom (entered vars scope) (term.Var x) (lookup s x)) → has_room vars f ≡ true
+  room_chosen vars scope f s once theirs =
+      all_from (λ y. is_in y.0 (occurrences f) || not (is_empty (w.dom y.1))) vars
+      (λ y here.
+      or_right (is_in y.0 (occurrences f)) (not (is_empty (w.dom y.1))) (not_from_false (is_empty (w.dom y.1)) (false_from_ne_true (is_empty (w.dom y.1)) (λ none.
+      empty_is (w.dom y.1) none (lookup s y.0) (own_domain w.dom vars scope y (lookup s y.0) once here (theirs y.0 (in_bound vars y here)))))))
 
   pub some_shown : (vars scope : TypedVars) (f : Formula) (nodes after : List (Node C)) (node made : ℕ) (labels inner wanted : List Term) (p : Env → Bool)
       → Fit consts rels (Exists vars f) scope (vars_of labels) → Stands R int_of w nodes node labels scope p
@@ -271,9 +279,7 @@ module _ {C : Type 0} {R : C → C → Ordering} {int_of : C → Option ℤ} {ce
             let choice = choice_out w.dom vars scope (holds_over w.dom w.db f) t (sym (holds_exists w.dom w.db vars f t) ∙ parts.1) in
             let s : Env = choice.0 in
             let p_s : p s ≡ true = outer.looks s t (λ x here. choice.1.others x (inside.1 x here)) ∙ parts.0 in
-            let room : has_room vars f ≡ true = all_from (λ y. is_in y.0 (occurrences f) || not (is_empty (w.dom y.1))) vars (λ y here.
-            or_right (is_in y.0 (occurrences f)) (not (is_empty (w.dom y.1))) (not_from_false (is_empty (w.dom y.1)) (false_from_ne_true (is_empty (w.dom y.1)) (λ none.
-            empty_is (w.dom y.1) none (lookup s y.0) (own_domain w.dom vars scope y (lookup s y.0) inside.2 here (choice.1.theirs y.0 (in_bound vars y here))))))) in (
+            let room : has_room vars f ≡ true = room_chosen vars scope f s inside.2 choice.1.theirs in (
               s,
               (λ x here. choice.1.others x (hidden x here)),
               and_from (q s) (has_room vars f) (and_from (p s) (holds_over w.dom w.db f s) p_s choice.1.passes) room,

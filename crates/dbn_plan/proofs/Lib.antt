@@ -3,11 +3,13 @@ pub mod AtomMade
 pub mod ColumnLaws
 pub mod ComparingLaws
 pub mod ComparisonMade
+pub mod DrawnLaws
 pub mod FormsReady
 pub mod FormulaLaws
 pub mod MadeLaws
 pub mod NodeLaws
 pub mod Places
+pub mod ReferringLaws
 pub mod RoomLaws
 pub mod Rows
 pub mod ScanLaws

@@ -39,13 +39,18 @@ use Rattle.dbn_network.specs.Values.{val}
 use Rattle.dbn_plan.specs.Meaning.{Holds, Means, LooksAt, vars_of}
 use Rattle.dbn_plan.specs.Compiled.{World, Stands, Fit}
 use Rattle.dbn_plan.specs.declared.sources.Sources.{Sources}
-use Rattle.dbn_plan.specs.Answering.{SameRows, var_labels, AnswersAt, IsKept, Planned, Says, Rooted}
+use Rattle.dbn_plan.specs.Answering.{SameRows, var_labels, AnswersAt, Ends, Planned, Says, Rooted, Finished, IsWhole}
 use Rattle.dbn_plan.specs.Columns.{HaveCells}
-use Rattle.dbn_plan.specs.Making.{Grown, Made, Shown, RoomMade, IsReady, IsProjection, Sourced, AreSources, AreScans, ScansMade, columns, rate}
+use Rattle.dbn_plan.specs.Making.{IsOpen, Grown, Placed, Made, Shown, Selected, Joined, ScanMade, RoomMade, IsReady, IsProjection, Sourced, AreSources, AreScans, ScansMade, columns, rate}
 use Rattle.dbn_plan.proofs.NodeLaws.{unit_means}
 use Rattle.dbn_plan.proofs.MadeLaws.{var_label}
+use Rattle.dbn_plan.proofs.RoomLaws.{unit_placed}
+use Rattle.dbn_plan.proofs.StepsMade.{selected_none, joined_unit, shown_same}
+use Rattle.dbn_plan.proofs.AtomMade.{scan_found, scan_placed, atom_arity, atom_made}
+use Rattle.dbn_network.specs.Holding.{IsDirect}
+use Rattle.dbn_nodes.specs.Answering.{IsCounted}
 use Rattle.dbn_plan.proofs.FormulaLaws.{stands_inside, some_fit, some_shown}
-use Rattle.dbn_formula.specs.declared.formula.Formula.TheVariants.{Exists}
+use Rattle.dbn_formula.specs.declared.formula.Formula.TheVariants.{Atom, Exists}
 use Rattle.dbn_formula.specs.Variables.{is_in}
 use Rattle.dbn_formula.specs.Free.{variable_of}
 use Rattle.dbn_formula.specs.Solve.{is_empty}
@@ -168,26 +173,25 @@ module _ {C : Type 0} {R : C → C → Ordering} {int_of : C → Option ℤ} (ce
       w (query_fit rels vars f accepted db fits_here))
 
   -- behind the unit, and then the query's variables in their order
-  pub planned_made : (form : Formula) (vars : TypedVars) (consts : List Value) (old start mid new : State C) (sources : Sources) (made : ℕ) (made_labels wanted : List Term) (node : ℕ) → consts ≡ constants form → sources.consts ≡ consts
+  pub planned_made : (form : Formula) (vars : TypedVars) (consts : List Value) (old start new : State C) (sources : Sources) (wanted : List Term) (node : ℕ) → consts ≡ constants form → sources.consts ≡ consts
       → ((x : Var) → binds vars x ≡ true → In x (occurrences form))
-      → Sourced old start sources (size form) → Rooted R int_of cell_of sources.consts form start mid made made_labels
-      → wanted ≡ var_labels vars → Shown R int_of mid new made made_labels node wanted → IsProjection new node
+      → Sourced old start sources (size form) → wanted ≡ var_labels vars → Finished R int_of cell_of sources.consts form vars start new node wanted
       → Planned R int_of cell_of form vars old new node
-  planned_made form vars consts old start mid new sources made made_labels wanted node e_consts e_sources occurring first step e_wanted last kept = record {
-    grown = grown_then old start new first.grown (grown_then start mid new step.grown last.grown);
+  planned_made form vars consts old start new sources wanted node e_consts e_sources occurring first e_wanted done = record {
+    grown = grown_then old start new first.grown (grown_then start done.mid new done.rooted.grown done.shown.grown);
     few =
         let a = first.few in
-        let b = subst (λ rs. length mid.nodes + 2 ≤ length start.nodes + rate rs * size form) first.grown.rels step.few in
-        let c = last.few in
+        let b = subst (λ rs. length done.mid.nodes + 2 ≤ length start.nodes + rate rs * size form) first.grown.rels done.rooted.few in
+        let c = done.shown.few in
         omega (arith, a, b, c);
-    kept = kept;
+    ends = done.ends;
     means = λ w fit.
-        let says : Says w.K (val R made mid.nodes w.feeds) made_labels (λ t. holds_over w.dom w.db form t) (occurrences form) =
-        (subst (λ rs. (v : World R int_of cell_of (constants form) rs) (scope : TypedVars) → Fit (constants form) rs form scope [] → Says v.K (val R made mid.nodes v.feeds) made_labels (λ t. holds_over v.dom v.db form t) (occurrences form)) first.grown.rels
-        (subst (λ vs. (v : World R int_of cell_of vs start.rels) (scope : TypedVars) → Fit vs start.rels form scope [] → Says v.K (val R made mid.nodes v.feeds) made_labels (λ t. holds_over v.dom v.db form t) (occurrences form)) (e_sources ∙ e_consts) step.says))
+        let says : Says w.K (val R done.inner done.mid.nodes w.feeds) done.inner_labels (λ t. holds_over w.dom w.db form t) (occurrences form) =
+        (subst (λ rs. (v : World R int_of cell_of (constants form) rs) (scope : TypedVars) → Fit (constants form) rs form scope [] → Says v.K (val R done.inner done.mid.nodes v.feeds) done.inner_labels (λ t. holds_over v.dom v.db form t) (occurrences form)) first.grown.rels
+        (subst (λ vs. (v : World R int_of cell_of vs start.rels) (scope : TypedVars) → Fit vs start.rels form scope [] → Says v.K (val R done.inner done.mid.nodes v.feeds) done.inner_labels (λ t. holds_over v.dom v.db form t) (occurrences form)) (e_sources ∙ e_consts) done.rooted.says))
         w vars fit in
         subst (λ ls. Means w.K (val R node new.nodes w.feeds) ls (λ t. holds_over w.dom w.db form t)) e_wanted
-        (last.means w.K w.feeds says.passes (λ t. holds_over w.dom w.db form t) w.coding says.means says.there
+        (done.shown.means w.K w.feeds says.passes (λ t. holds_over w.dom w.db form t) w.coding says.means says.there
         (λ t e. let from = says.back t e in (from.0, (λ x here. from.1 x (wanted_occurs x here)), from.2)));
   }
     where
@@ -198,7 +202,7 @@ module _ {C : Type 0} {R : C → C → Ordering} {int_of : C → Option ℤ} (ce
           ⊎_elim (λ is. occurring x (subst (λ z. binds vars z ≡ true) (sym is) (in_bound vars named.0 named.1))) (λ none. absurd none) (subst (λ a. In x (variable_of a)) named.2 found.2)
 
   -- the unit stands for every environment
-  unit_stands : (consts : List Value) (s : State C) (sources : Sources) (i : ℕ) (labels : List Term) (scope : TypedVars) → AreSources s sources → i ≡ sources.unit → labels ≡ []
+  pub unit_stands : (consts : List Value) (s : State C) (sources : Sources) (i : ℕ) (labels : List Term) (scope : TypedVars) → AreSources s sources → i ≡ sources.unit → labels ≡ []
       → (w : World R int_of cell_of consts s.rels) → Stands R int_of w s.nodes i labels scope (λ t. true)
   unit_stands consts s sources i labels scope are e_i e_labels w =
       let unit : slice_get s.nodes i ≡ Some node.Unit = subst (λ k. slice_get s.nodes k ≡ Some node.Unit) (sym e_i) are.unit in
@@ -274,11 +278,41 @@ query_columns vars form made_labels wanted occurring own e a at =
     let x : Var × ColType = found.0 in
     subst (λ b. In b made_labels) (sym found.2) (var_label made_labels x.0 (own x.0 (occurring x.0 (in_bound vars x found.1))))
 
-pub projection_kept : {C : Type 0} (s : State C) (i : ℕ) → IsProjection s i → (d : Node C) → IsKept (slice_index_or s.nodes i d)
-projection_kept s i (from, cols, is) d = subst IsKept (sym (get_or_there s.nodes i (node.Project from cols) d is)) (tt, tt)
+pub projection_ends : {C : Type 0} (s : State C) (vars : TypedVars) (i : ℕ) → IsProjection s i → Ends s vars i
+projection_ends s vars i (from, cols, is) = record {
+  there = there_small s.nodes i (node.Project from cols) is;
+  direct = λ d. subst IsDirect (sym (get_or_there s.nodes i (node.Project from cols) d is)) tt;
+  counted = λ none d. subst IsCounted (sym (get_or_there s.nodes i (node.Project from cols) d is)) tt;
+}
 
-pub projection_there : {C : Type 0} (s : State C) (i : ℕ) → IsProjection s i → i < length s.nodes
-projection_there s i (from, cols, is) = there_small s.nodes i (node.Project from cols) is
+scan_ends : {C : Type 0} (s : State C) (vars : TypedVars) (wanted : List Term) (i rel : ℕ) → slice_get s.nodes i ≡ Some (node.Scan rel) → wanted ≡ var_labels vars → (wanted ≡ [] → ⊥) → Ends s vars i
+scan_ends s vars wanted i rel is e_wanted some = record {
+  there = there_small s.nodes i (node.Scan rel) is;
+  direct = λ d. subst IsDirect (sym (get_or_there s.nodes i (node.Scan rel) d is)) tt;
+  counted = λ none d. absurd (some (e_wanted ∙ ap var_labels none));
+}
+
+-- the scan of a relation is a query of just its columns
+module _ {C : Type 0} {R : C → C → Ordering} {int_of : C → Option ℤ} (cell_of : Value → Option C) where
+  pub scan_finished : (consts : List Value) (form : Formula) (vars : TypedVars) (rel : ℕ) (terms wanted : List Term) (s : State C) (sources : Sources) (i : ℕ) → form ≡ Atom rel terms → IsOpen s → AreSources s sources → rel < length s.rels
+      → IsReady cell_of s.rels [] form → IsWhole cell_of terms wanted → get nat_cmp sources.scans rel ≡ Some i → wanted ≡ var_labels vars → Finished R int_of cell_of consts form vars s s i wanted
+  scan_finished consts form vars rel terms wanted s sources i e_form ready are h can whole at e_wanted =
+      let scan : ScanMade s s rel i = scan_found s sources rel i are at in
+      let can_atom : IsReady cell_of s.rels [] (Atom rel terms) = subst (IsReady cell_of s.rels []) e_form can in
+      let unit : Placed s sources.unit [] = unit_placed s sources sources.unit [] are refl refl in
+      let placed : Placed s i terms = scan_placed s s rel terms i ready h (atom_arity s.rels rel terms can_atom.arity) scan in
+      let none : Selected R s s i [] i = selected_none R s i [] refl in
+      let alone : Joined R int_of s s sources.unit [] i terms i terms = joined_unit R int_of s sources sources.unit [] i terms terms are refl unit placed refl in
+      let made : Made R int_of cell_of consts (Atom rel terms) s s sources.unit [] i terms = atom_made rel terms s s s s sources.unit [] [] i i i terms ready unit h can_atom scan (sym whole.plain) none alone in
+      let rooted : Rooted R int_of cell_of consts (Atom rel terms) s s i terms = rooted_plain cell_of consts (Atom rel terms) s s sources sources.unit [] i terms are refl refl made in
+      record {
+        mid = s;
+        inner = i;
+        inner_labels = terms;
+        rooted = subst (λ f. Rooted R int_of cell_of consts f s s i terms) (sym e_form) rooted;
+        shown = shown_same R int_of s i terms wanted placed whole.same;
+        ends = scan_ends s vars wanted i rel scan.is e_wanted whole.some;
+      }
 
 rate_is : (rels : Shapes) → rate rels ≡ 3 * columns rels + 12
 unfolding rate

@@ -1,5 +1,5 @@
 -- What a compiled query is worth: in cells of any coder that has grown from this one, its rows are the answers.
-use Rattle.std.specs.Prelude.{◌≡◌, ◌≤◌, ◌+◌, ◌*◌, ℕ, ℤ, Bool, true, List, [], length, Option, map}
+use Rattle.std.specs.Prelude.{◌≡◌, ◌<◌, ◌≤◌, ◌+◌, ◌*◌, ℕ, ℤ, Bool, true, List, [], length, Option, map, slice_index_or}
 use Rattle.std.specs.declared.cmp.Ordering.{Ordering}
 use Rattle.dbn_value.specs.Members.{In}
 use Rattle.dbn_value.specs.Coding.{Extends, IsCoding}
@@ -15,6 +15,7 @@ use Rattle.dbn_formula.specs.Typing.{Shapes}
 use Rattle.dbn_formula.specs.Solutions.{HasShapes}
 use Rattle.dbn_formula.specs.declared.formula.Formula.{Formula}
 use Rattle.dbn_nodes.specs.declared.node.Node.{Node}
+use Rattle.dbn_nodes.specs.declared.node.ColTest.{ColTest}
 use Rattle.dbn_network.specs.Values.{val}
 use Rattle.dbn_formula.specs.Answers.{constants}
 use Rattle.dbn_formula.specs.Holds.{Env, Agree, holds_over}
@@ -24,14 +25,17 @@ use Rattle.dbn_network.specs.Holding.{IsDirect}
 use Rattle.dbn_network.specs.States.{State}
 use Rattle.dbn_plan.specs.Meaning.{Holds, IsRowOf, Means, vars_of}
 use Rattle.dbn_plan.specs.Compiled.{World, Fit}
-use Rattle.dbn_plan.specs.Making.{Grown, Placed, IsProjection, rate}
+use Rattle.dbn_plan.specs.Making.{Grown, Placed, Shown, rate}
+use Rattle.dbn_plan.specs.Columns.{tests_after}
 
 abbrev pub var_labels : TypedVars → List Term
 var_labels vars = map (λ x. term.Var x.0) vars
 
--- a look-up tells whether the node has a row, and a look whether it has any
-abbrev pub IsKept : {C : Type 0} → Node C → Type 0
-IsKept n = IsDirect n × IsCounted n
+-- the node of a query: a look-up or two tell whether it has a row, and where there are no variables it counts its rows
+pub record Ends {C : Type 0} (s : State C) (vars : TypedVars) (node : ℕ) : Type 0 where
+  pub there : node < length s.nodes
+  pub direct : (d : Node C) → IsDirect (slice_index_or s.nodes node d)
+  pub counted : vars ≡ [] → (d : Node C) → IsCounted (slice_index_or s.nodes node d)
 
 module _ {C : Type 0} where
   -- the rows of cells are those of the rows of values
@@ -53,11 +57,11 @@ module _ {C : Type 0} (R : C → C → Ordering) (int_of : C → Option ℤ) whe
       (K : Value → Option C) (feeds : List (List (List C))) (db : Instance) → Extends cell_of K → IsCoding R int_of K → Holds K (length rels) feeds db → HasShapes rels db
       → SameRows K (val R node nodes feeds) (answers f vars db)
 
-  -- a projection, whose rows are the values of these variables where the formula holds
+  -- a node whose rows are the values of these variables where the formula holds
   pub record Planned (cell_of : Value → Option C) (form : Formula) (vars : TypedVars) (old new : State C) (node : ℕ) : Type 0 where
     pub grown : Grown old new
     pub few : length new.nodes ≤ length old.nodes + rate old.rels * size form + size form
-    pub kept : IsProjection new node
+    pub ends : Ends new vars node
     pub means : (w : World R int_of cell_of (constants form) old.rels) → Fit (constants form) old.rels form vars []
         → Means w.K (val R node new.nodes w.feeds) (var_labels vars) (λ t. holds_over w.dom w.db form t)
 
@@ -68,3 +72,18 @@ module _ {C : Type 0} (R : C → C → Ordering) (int_of : C → Option ℤ) whe
     pub placed : Placed new node labels
     pub columns : (x : Var) → In x (occurrences form) → In x (vars_of labels)
     pub says : (w : World R int_of cell_of consts old.rels) (scope : TypedVars) → Fit consts old.rels form scope [] → Says w.K (val R node new.nodes w.feeds) labels (λ t. holds_over w.dom w.db form t) (occurrences form)
+
+  -- the columns of a formula behind the unit, put in the order of the query's variables
+  pub record Finished (cell_of : Value → Option C) (consts : List Value) (form : Formula) (vars : TypedVars) (old new : State C) (node : ℕ) (wanted : List Term) : Type 0 where
+    pub mid : State C
+    pub inner : ℕ
+    pub inner_labels : List Term
+    pub rooted : Rooted cell_of consts form old mid inner inner_labels
+    pub shown : Shown R int_of mid new inner inner_labels node wanted
+    pub ends : Ends new vars node
+
+-- the terms of an atom are all that is wanted, and ask nothing of the columns of its relation
+pub record IsWhole {C : Type 0} (K : Value → Option C) (terms wanted : List Term) : Type 0 where
+  pub same : terms ≡ wanted
+  pub plain : ◌≡◌ {A = List (ColTest C)} (tests_after K [] terms) []
+  pub some : wanted ≡ [] → ⊥

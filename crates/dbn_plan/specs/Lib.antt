@@ -5,3 +5,4 @@ pub mod Compiled
 pub mod Filling
 pub mod Making
 pub mod Meaning
+pub mod Referring

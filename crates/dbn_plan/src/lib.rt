@@ -8,6 +8,7 @@ mod context;
 mod forms;
 mod labels;
 mod laws;
+mod referring;
 mod room;
 mod scans;
 mod sources;

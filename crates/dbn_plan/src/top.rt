@@ -1,4 +1,4 @@
-ghost use Rattle.std.specs.Prelude.{◌≡◌, ◌<◌, ◌≤◌, ◌+◌, ◌*◌, [], true, OnOk, IfOk, length, slice_index_or};
+ghost use Rattle.std.specs.Prelude.{◌≡◌, ◌<◌, ◌≤◌, ◌+◌, ◌*◌, [], true, OnOk, IfOk, IfSome, IsTrue, length, slice_index_or};
 ghost use Rattle.dbn_value.specs.Members.{In};
 ghost use Rattle.dbn_value.specs.Coding.{Extends};
 ghost use Rattle.dbn_value.specs.declared.term.Var.{Var as OfVar};
@@ -9,13 +9,17 @@ ghost use Rattle.dbn_formula.specs.Size.{size};
 ghost use Rattle.dbn_formula.specs.Solutions.{AcceptsQuery};
 ghost use Rattle.dbn_formula.specs.Variables.{binds};
 ghost use Rattle.dbn_nodes.specs.declared.node.Node.{Node as NodeOf};
+ghost use Rattle.dbn_network.specs.Holding.{IsDirect};
+ghost use Rattle.dbn_nodes.specs.Answering.{IsCounted};
 ghost use Rattle.dbn_plan.specs.Columns.{HaveCells};
 ghost use Rattle.dbn_plan.specs.Making.{IsOpen, Grown, AreSources, IsReady, Sourced, columns};
-ghost use Rattle.dbn_plan.specs.Answering.{AnswersAt, IsKept, Planned, Rooted};
+ghost use Rattle.dbn_plan.specs.Answering.{AnswersAt, Planned, Rooted, Finished, IsWhole, var_labels};
 
+use super::columns::{same_terms, tests_of};
 use super::context::Context;
 use super::forms::compile_at;
 use super::labels::labels_of;
+use super::referring::{difference_rows, is_closed, lacking_parts};
 use super::room::with_room;
 use super::scans::{add_relations, scan_each};
 use super::sources::Sources;
@@ -23,7 +27,7 @@ use super::steps::projected;
 use dbn_formula::{Formula, constants, solvable};
 use dbn_network::Network;
 use dbn_nodes::Node;
-use dbn_value::{Cell, Coder, TypedVars, Value};
+use dbn_value::{Cell, Coder, Terms, TypedVars, Value};
 use sqlite_items::Items;
 use std::alloc::{AllocError, Global};
 use std::collections::BTreeMap;
@@ -45,7 +49,8 @@ pub fn compile<P: Coder>(
     ensures coder { Extends (P.cell_of coder.old) (P.cell_of coder.new) }
     ensures answers { IfOk result (λ node. AnswersAt P.Cell.cmp P.Cell.int_of (P.cell_of coder.new) network.new.rels f.now vars.now network.new.nodes node) }
     ensures range { IfOk result (λ node. node < length network.new.nodes) }
-    ensures kept { IfOk result (λ node. (d : NodeOf P.Cell) → IsKept (slice_index_or network.new.nodes node d)) }
+    ensures direct { IfOk result (λ node. (d : NodeOf P.Cell) → IsDirect (slice_index_or network.new.nodes node d)) }
+    ensures counted { IfOk result (λ node. vars.now ≡ [] → (d : NodeOf P.Cell) → IsCounted (slice_index_or network.new.nodes node d)) }
     ensures few { OnOk result (length network.new.nodes ≤ length network.old.nodes + 64 * (size f.now + 1) * (size f.now + columns network.old.rels + 1)) }
 {
     let form = solvable(alloc, f)?;
@@ -71,9 +76,112 @@ fn plan<P: Coder>(
     ensures { IfOk result (λ node. Planned P.Cell.cmp P.Cell.int_of (P.cell_of coder.now) form.now vars.now network.old network.new node) }
 {
     let sources = first_sources(alloc, form, consts, network)?;
-    let made = behind_unit(alloc, form, &sources, coder, network)?;
     let wanted = labels_of(alloc, vars.as_slice())?;
-    let node = projected(alloc, made.node, &made.labels, &wanted, network)?;
+    let whole = relation_itself(alloc, form, vars, &wanted, &sources, coder, &*network)?;
+    match whole {
+        Some(scan) => Ok(scan),
+        None => {
+            let node = in_order(alloc, form, vars, &wanted, &sources, coder, network)?;
+            Ok(node)
+        }
+    }
+}
+
+/// The scan of a relation, where the query asks for its rows as they are.
+fn relation_itself<P: Coder>(
+    alloc: Global,
+    form: &Formula,
+    vars: &TypedVars,
+    wanted: &Terms,
+    sources: &Sources,
+    coder: &P,
+    network: &Network<P::Cell>,
+) -> Result<Option<usize>, AllocError>
+    requires open { IsOpen network.now }
+    requires sources { AreSources network.now sources.now }
+    requires ready { IsReady (P.cell_of coder.now) network.now.rels [] form.now }
+    requires wanted { wanted.now ≡ var_labels vars.now }
+    ensures { IfOk result (λ found. IfSome found (λ node. Finished P.Cell.cmp P.Cell.int_of (P.cell_of coder.now) sources.now.consts form.now vars.now network.now network.now node wanted.now)) }
+{
+    match form {
+        Formula::Atom { rel, terms } => {
+            scan_itself(
+                alloc, form, *rel, terms, vars, wanted, sources, coder, network,
+            )
+        }
+        _ => Ok(None),
+    }
+}
+
+/// The same of an atom.
+fn scan_itself<P: Coder>(
+    alloc: Global,
+    form: &Formula,
+    rel: usize,
+    terms: &Terms,
+    vars: &TypedVars,
+    wanted: &Terms,
+    sources: &Sources,
+    coder: &P,
+    network: &Network<P::Cell>,
+) -> Result<Option<usize>, AllocError>
+    requires open { IsOpen network.now }
+    requires sources { AreSources network.now sources.now }
+    requires atom { form.now ≡ Formula.Atom rel terms.now }
+    requires ready { IsReady (P.cell_of coder.now) network.now.rels [] form.now }
+    requires wanted { wanted.now ≡ var_labels vars.now }
+    ensures { IfOk result (λ found. IfSome found (λ node. Finished P.Cell.cmp P.Cell.int_of (P.cell_of coder.now) sources.now.consts form.now vars.now network.now network.now node wanted.now)) }
+{
+    if rel >= network.rels().len() {
+        return Ok(None);
+    }
+    if !is_whole(alloc, terms, wanted, coder)? {
+        return Ok(None);
+    }
+    match sources.scans.get(&rel) {
+        Some(scan) => Ok(Some(*scan)),
+        None => Ok(None),
+    }
+}
+
+/// Whether the terms are all that is wanted, and ask nothing of the columns.
+fn is_whole<P: Coder>(
+    alloc: Global,
+    terms: &Terms,
+    wanted: &Terms,
+    coder: &P,
+) -> Result<bool, AllocError>
+    ensures { IfOk result (λ whole. IsTrue whole → IsWhole (P.cell_of coder.now) terms.now wanted.now) }
+{
+    if wanted.is_empty() {
+        return Ok(false);
+    }
+    if !same_terms(terms.as_slice(), wanted.as_slice()) {
+        return Ok(false);
+    }
+    let tests = tests_of(alloc, terms.as_slice(), coder)?;
+    Ok(tests.is_empty())
+}
+
+/// The formula behind the unit, and its columns in the order of the variables.
+fn in_order<P: Coder>(
+    alloc: Global,
+    form: &Formula,
+    vars: &TypedVars,
+    wanted: &Terms,
+    sources: &Sources,
+    coder: &P,
+    network: &mut Network<P::Cell>,
+) -> Result<usize, AllocError>
+    requires open { IsOpen network.old }
+    requires sources { AreSources network.old sources.now }
+    requires ready { IsReady (P.cell_of coder.now) network.old.rels [] form.now }
+    requires occurring { (x : OfVar) → binds vars.now x ≡ true → In x (occurrences form.now) }
+    requires wanted { wanted.now ≡ var_labels vars.now }
+    ensures { IfOk result (λ node. Finished P.Cell.cmp P.Cell.int_of (P.cell_of coder.now) sources.now.consts form.now vars.now network.old network.new node wanted.now) }
+{
+    let made = behind_unit(alloc, form, sources, coder, network)?;
+    let node = projected(alloc, made.node, &made.labels, wanted, network)?;
     Ok(node)
 }
 
@@ -119,7 +227,16 @@ fn behind_unit<P: Coder>(
     };
     match form {
         Formula::Exists { vars, body } => {
-            chosen_behind(alloc, vars, body.get(), &unit, sources, coder, network)
+            exists_behind(
+                alloc,
+                form,
+                vars,
+                body.get(),
+                &unit,
+                sources,
+                coder,
+                network,
+            )
         }
         _ => plain_behind(alloc, form, &unit, sources, coder, network),
     }
@@ -143,6 +260,35 @@ fn plain_behind<P: Coder>(
 {
     let made = compile_at(alloc, form, unit, sources, coder, network)?;
     Ok(made)
+}
+
+/// A formula with a quantifier at its head. Where it only asks whether some rows lack others, no join is needed.
+fn exists_behind<P: Coder>(
+    alloc: Global,
+    form: &Formula,
+    vars: &TypedVars,
+    body: &Formula,
+    unit: &Context,
+    sources: &Sources,
+    coder: &P,
+    network: &mut Network<P::Cell>,
+) -> Result<Context, AllocError>
+    requires open { IsOpen network.old }
+    requires sources { AreSources network.old sources.now }
+    requires unit { unit.now.node ≡ sources.now.unit }
+    requires nothing { unit.now.labels ≡ [] }
+    requires form { form.now ≡ Formula.Exists vars.now body.now }
+    requires ready { IsReady (P.cell_of coder.now) network.old.rels [] (Formula.Exists vars.now body.now) }
+    ensures { IfOk result (λ b. Rooted P.Cell.cmp P.Cell.int_of (P.cell_of coder.now) sources.now.consts (Formula.Exists vars.now body.now) network.old network.new b.node b.labels) }
+{
+    if let Some((left, right)) = lacking_parts(body) {
+        if is_closed(alloc, form)? {
+            return difference_rows(
+                alloc, vars, body, left, right, unit, sources, coder, network,
+            );
+        }
+    }
+    chosen_behind(alloc, vars, body, unit, sources, coder, network)
 }
 
 /// A quantifier behind the unit, with the columns of its body.

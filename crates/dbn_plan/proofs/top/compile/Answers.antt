@@ -1,6 +1,6 @@
 use Rattle.std.proofs.Common.{◌∙◌, refl, subst, length}
 use Rattle.dbn_plan.specs.Columns.{HaveCells}
-use Rattle.dbn_plan.proofs.TopLaws.{query_ready, query_occurs, planned_answers, projection_there, projection_kept, few_nodes}
+use Rattle.dbn_plan.proofs.TopLaws.{query_ready, query_occurs, planned_answers, few_nodes}
 use Rattle.dbn_plan.proofs.top.compile.Goals as goal
 
 pub plan-requires-clause-ready : goal.plan-requires-clause-ready
@@ -16,10 +16,13 @@ returns-clause-answers g c =
     planned_answers (g.P.Coder.cell_of c.put_all.new.coder) c.args.network.now.rels c.args.vars.now c.args.f.now c.in_ok-form.form c.args.network.now c.plan.new.network c.in_ok-node.node c.requires.accepted refl c.in_ok-form.ensures c.in_ok-node.ensures
 
 pub returns-clause-range : goal.returns-clause-range
-returns-clause-range g c = projection_there c.plan.new.network c.in_ok-node.node c.in_ok-node.ensures.kept
+returns-clause-range g c = c.in_ok-node.ensures.ends.there
 
-pub returns-clause-kept : goal.returns-clause-kept
-returns-clause-kept g c = projection_kept c.plan.new.network c.in_ok-node.node c.in_ok-node.ensures.kept
+pub returns-clause-direct : goal.returns-clause-direct
+returns-clause-direct g c = c.in_ok-node.ensures.ends.direct
+
+pub returns-clause-counted : goal.returns-clause-counted
+returns-clause-counted g c = c.in_ok-node.ensures.ends.counted
 
 pub returns-clause-few : goal.returns-clause-few
 returns-clause-few g c = few_nodes c.args.network.now.rels c.args.f.now c.in_ok-form.form (length c.args.network.now.nodes) (length c.plan.new.network.nodes) c.in_ok-form.ensures c.in_ok-node.ensures.few
