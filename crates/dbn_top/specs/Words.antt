@@ -1,7 +1,6 @@
 -- The table of the words that name a verb.
-use Rattle.std.specs.Prelude.{ℕ, Bool, cond, ◌&&◌, nat_le, List, [], ◌∷◌, Option, None, Some, codes, decimal, bytes_eq}
+use Rattle.std.specs.Prelude.{ℕ, Bool, cond, ◌&&◌, ◌==◌, nat_le, List, [], ◌∷◌, Option, None, Some, codes, decimal, bytes_eq}
 use Rattle.std.specs.Str.Parse.{digits_value}
-use Rattle.dbn_model.specs.NetText.{after}
 use Rattle.dbn_top.specs.declared.verb.Verb.{Verb}
 use Rattle.dbn_top.specs.declared.verb.Verb.TheVariants.{Check, Try, New, Run, Dump, Demo}
 
@@ -26,6 +25,12 @@ run_every (Some number) = Some (Run (Some number))
 abbrev pub demo_of : Option ℕ → Option Verb
 demo_of None = None
 demo_of (Some size) = Some (Demo size)
+
+-- the bytes behind that front
+abbrev pub after : List ℕ → List ℕ → Option (List ℕ)
+after [] bytes = Some bytes
+after (byte ∷ front) [] = None
+after (byte ∷ front) (first ∷ bytes) = cond (byte == first) (after front bytes) None
 
 abbrev pub number_in : ℕ → Option (List ℕ) → Option ℕ
 number_in most None = None
