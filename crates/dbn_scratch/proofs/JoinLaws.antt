@@ -1,13 +1,12 @@
 -- Looking rows up by the values of the terms that have one finds each row that matches.
 use Rattle.std.specs.Borrow.{Bor}
-use Rattle.std.proofs.Common.{◌≡◌, inl, Bool, true, false, cond, not, ◌||◌, if◌then◌else◌, List, [], ◌∷◌, ◌++◌, map, refl, ap, sym, ◌∙◌, subst}
+use Rattle.std.proofs.Common.{◌≡◌, inl, Bool, true, false, cond, not, ◌||◌, if◌then◌else◌, List, [], ◌∷◌, ◌++◌, map, refl, ap, sym, ◌∙◌}
 use Rattle.std.proofs.lemmas.Bool.{true≢false}
 use Rattle.std.specs.Cmp.{tied_itself}
 use Rattle.std.specs.Ordering.{is_eq}
 use Rattle.std.specs.List.{filter, flat_map, list_any}
-use Rattle.std.specs.BTreeMap.{is_at}
 use Rattle.dbn_value.specs.Members.{In}
-use Rattle.dbn_value.specs.Order.{row_cmp, rows_total}
+use Rattle.dbn_value.specs.Order.{rows_total}
 use Rattle.dbn_value.specs.declared.value.Value.{Value}
 use Rattle.dbn_value.specs.declared.term.Term.{Term}
 use Rattle.dbn_formula.specs.Holds.{Env, value_of}

@@ -33,6 +33,7 @@ pub(crate) fn add_atom<'x>(
 }
 
 /// Whether a row of the relation matches the terms.
+#[tactic(auto, using(crate::proofs::AtomLaws::no_rows))]
 pub(crate) fn has_match<'x>(
     alloc: Global,
     tables: &Tables<'x>,
@@ -46,8 +47,51 @@ pub(crate) fn has_match<'x>(
     ensures some { IfOk result (λ some. some ≡ not (is_empty (flat_map (λ row. matched terms.now row (env_of env.now)) (slice_index_or tables.now.instance.now rel [])))) }
     ensures same { indexes.new ≡ indexes.old }
 {
-    let rows = candidates(alloc, tables, indexes, rel, terms, env)?;
+    if rel >= tables.instance.relations() {
+        return Ok(false);
+    }
+    let marks = marks_of(alloc, terms, env)?;
+    let spot = (rel, marks);
+    match indexes.get(&spot) {
+        Some(index) => has_match_under(alloc, index, spot.1.as_slice(), terms, env, tables.zero),
+        None => {
+            indexes.note(alloc, spot)?;
+            has_match_in(alloc, tables.instance.row_set(rel), terms, env)
+        }
+    }
+}
+
+/// Whether a row with the values of the marked terms matches the terms.
+fn has_match_under<'x>(
+    alloc: Global,
+    index: &Index<'x>,
+    marks: &[bool],
+    terms: &'x [Term],
+    env: &[(&'x Var, &'x Value)],
+    zero: &'x Value,
+) -> Result<bool, AllocError>
+    requires { zero.now ≡ Value.Int (pos 0) }
+    ensures { IfOk result (λ some. some ≡ not (is_empty (flat_map (λ row. matched terms.now row (env_of env.now)) (rows_under index.now.entries (key_of marks.now (map (value_of (env_of env.now)) terms.now)))))) }
+{
+    let rows = rows_for(alloc, index, marks, terms, env, zero)?;
     some_matches(alloc, rows.as_slice(), terms, env)
+}
+
+/// Whether one of the rows matches the terms; none is looked at behind the first that does.
+fn has_match_in<'x>(
+    alloc: Global,
+    rows: &'x BTreeSet<Row<Value>>,
+    terms: &'x [Term],
+    env: &[(&'x Var, &'x Value)],
+) -> Result<bool, AllocError>
+    ensures { IfOk result (λ some. some ≡ list_any (λ row. not (is_empty (matched terms.now row (env_of env.now)))) rows.now.keys) }
+{
+    for row in rows {
+        if matches(alloc, terms, row.as_slice(), env)? {
+            return Ok(true);
+        }
+    }
+    Ok(false)
 }
 
 /// The rows of the relation that may match the terms: those with the values that the terms have, where there is an index by
