@@ -47,6 +47,7 @@ pub mod TypeFaults
 pub mod TypesKept
 pub mod TypingLaws
 pub mod VariableLaws
+pub mod Waiting
 pub mod Weights
 pub mod WrittenLaws
 pub mod WrittenTests

@@ -244,7 +244,7 @@ stand_in_vars (x ∷ xs) = ap (λ ys. x ∷ ys) (stand_in_vars xs)
 occurrences_stand_in : (xs : List Var) → occurrences (stand_in xs) ≡ xs
 occurrences_stand_in xs = occurrences_atom 0 (map term.Var xs) ∙ stand_in_vars xs
 
-some_weight : (f : Formula) → 1 ≤ weight f
+pub some_weight : (f : Formula) → 1 ≤ weight f
 some_weight = induction (λ f. 1 ≤ weight f) (record {
   atom = λ rel terms. omega (arith, weight_atom rel terms);
   test = λ c left right. omega (arith, weight_test c left right);

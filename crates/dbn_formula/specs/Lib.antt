@@ -18,4 +18,5 @@ pub mod Solve
 pub mod Typing
 pub mod Variables
 pub mod Weight
+pub mod Waiting
 pub mod Written

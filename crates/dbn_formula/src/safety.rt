@@ -1,18 +1,20 @@
-ghost use Rattle.std.specs.Prelude.{◌≡◌, [], ◌∷◌, ◌++◌, ◌&&◌, List, None, map, length, IfOk, OnOk};
-ghost use Rattle.std.specs.List.{flat_map, list_all};
+ghost use Rattle.std.specs.Prelude.{◌≡◌, ◌<◌, ◌+◌, [], ◌∷◌, ◌++◌, ◌&&◌, List, None, true, false, drop, get_or, map, length, IfOk, OnOk};
+ghost use Rattle.std.specs.List.{flat_map, list_all, list_any};
 ghost use Rattle.dbn_formula.specs.Free.{occurrences, unhidden};
 ghost use Rattle.dbn_formula.specs.Safe.{all_in, known, test_safe, outside, safe};
+ghost use Rattle.dbn_formula.specs.Waiting.{WereUnsafe, StaysUnsafe, is_among};
 ghost use Rattle.dbn_value.specs.declared.term.Term.{Term};
 ghost use Rattle.dbn_formula.specs.Rest.{Rest, Rests, stand_in, conjunction_left};
 ghost use Rattle.dbn_formula.specs.Known.{hides_bound};
 ghost use Rattle.dbn_formula.specs.Variables.{is_in};
 ghost use Rattle.dbn_formula.specs.Conjuncts.{first_safe, taken, turns, turns_after, safe_position};
 ghost use Rattle.dbn_formula.specs.declared.formula.Formula.{Formula};
+ghost use Rattle.dbn_formula.specs.declared.formula.Formula.TheVariants.{And, Not};
 
 use super::formula::{Formula, Formulas};
 use super::normal_form::{choice, denial};
 use super::var_list::{VarList, list_of};
-use super::variables::{add_occurrences, bind, binds};
+use super::variables::{add_each, add_occurrences, bind, binds};
 use dbn_value::{Cmp, ColType, CopyIn, Term, Terms, TypedVars, Var, Vars};
 use sqlite_items::Items;
 use std::alloc::{AllocError, Global};
@@ -74,10 +76,7 @@ fn trial(alloc: Global, f: &Formula, bound: &VarList) -> Result<Tried, AllocErro
         Formula::Atom { .. } => whole(alloc, f, true),
         Formula::Test { cmp, left, right } => whole(alloc, f, test_safe(*cmp, left, right, bound)),
         Formula::And(parts) => all_tried(alloc, parts.as_slice(), bound),
-        Formula::Or(parts) => {
-            let needed = all_occurrences(alloc, parts.as_slice())?;
-            each_tried(alloc, parts.as_slice(), needed.as_slice(), bound)
-        }
+        Formula::Or(parts) => any_tried(alloc, parts.as_slice(), bound),
         Formula::Not(part) => {
             let binds_all = binds_all_of(alloc, part.get(), bound)?;
             tried_denial(alloc, trial(alloc, part.get(), bound)?, binds_all)
@@ -143,6 +142,16 @@ fn tried_choice(alloc: Global, vars: &TypedVars, body: Tried) -> Result<Tried, A
     Ok(Tried { is_safe, left })
 }
 
+/// Whether each part is safe and binds what the others bind, for a part that is tried by itself.
+#[cycle(safe)]
+fn any_tried(alloc: Global, parts: &[Formula], bound: &VarList) -> Result<Tried, AllocError>
+    ensures is_safe { IfOk result (λ tried. tried.is_safe ≡ list_all (λ f. safe f bound.now && all_in (flat_map occurrences parts.now) (bound.now ++ occurrences f)) parts.now) }
+    ensures left { IfOk result (λ tried. Rest bound.now (Formula.Or parts.now) tried.left) }
+{
+    let needed = needed_by(alloc, parts, bound)?;
+    each_tried(alloc, parts, needed.as_slice(), bound)
+}
+
 /// Whether each part is safe, and binds what it needs together with what is bound.
 #[cycle(safe)]
 fn each_tried(
@@ -157,20 +166,35 @@ fn each_tried(
     let mut is_safe = true;
     let mut lefts = Items::new(alloc);
     for part in parts {
-        let tried = trial(alloc, part, bound)?;
-        let enough = binds_needed(alloc, part, needed, bound)?;
-        is_safe = all_three(is_safe, tried.is_safe, enough);
+        let tried = part_tried(alloc, part, needed, bound, is_safe)?;
+        is_safe = tried.is_safe;
         lefts.push(tried.left)?;
     }
     let left = Formula::Or(lefts);
     Ok(Tried { is_safe, left })
 }
 
-// A function of its own, so that the loop that calls it has no branch.
-fn all_three(first: bool, second: bool, third: bool) -> bool
-    ensures { result ≡ (first && (second && third)) }
+/// Whether those before it are safe, and the part is and binds what it needs. Behind one that isn't it is not tried.
+#[cycle(safe)]
+fn part_tried(
+    alloc: Global,
+    part: &Formula,
+    needed: &[Var],
+    bound: &VarList,
+    so_far: bool,
+) -> Result<Tried, AllocError>
+    ensures is_safe { IfOk result (λ tried. tried.is_safe ≡ (so_far && (safe part.now bound.now && all_in needed.now (bound.now ++ occurrences part.now)))) }
+    ensures left { IfOk result (λ tried. Rest bound.now part.now tried.left) }
 {
-    first && second && third
+    if !so_far {
+        return whole(alloc, part, false);
+    }
+    let enough = binds_needed(alloc, part, needed, bound)?;
+    let Tried { is_safe, left } = trial(alloc, part, bound)?;
+    Ok(Tried {
+        is_safe: is_safe && enough,
+        left,
+    })
 }
 
 /// Whether all parts get taken.
@@ -275,16 +299,21 @@ fn look_at<'x>(alloc: Global, turns: &mut Turns<'x>, part: &'x Formula) -> Resul
     let tried = trial(alloc, part, &turns.bound)?;
     if tried.is_safe {
         turns.take(alloc, part)?;
-        return take_waiting(alloc, turns);
+        return take_waiting(alloc, turns, part);
     }
     turns.waiting.push(part)?;
     turns.lefts.push(tried.left)
 }
 
-/// Takes those that wait, each time the first that is safe, until none is.
+/// Takes those that wait, each time the first that is safe, until none is. The part was taken last, and none was safe before.
 #[cycle(safe)]
-fn take_waiting<'x>(alloc: Global, turns: &mut Turns<'x>) -> Result<(), AllocError>
-    requires { Rests turns.old.bound (map (λ f. f.now) turns.old.waiting) turns.old.lefts }
+fn take_waiting<'x>(
+    alloc: Global,
+    turns: &mut Turns<'x>,
+    part: &'x Formula,
+) -> Result<(), AllocError>
+    requires lefts { Rests turns.old.bound (map (λ f. f.now) turns.old.waiting) turns.old.lefts }
+    requires were_unsafe { WereUnsafe (length turns.old.lefts) turns.old.lefts (occurrences part.now) turns.old.bound }
     ensures same_turns { OnOk result ((rest : List Formula)
         → turns_after (map (λ f. f.now) turns.new.taken) (map (λ f. f.now) turns.new.waiting ++ rest) turns.new.bound
         ≡ turns_after (map (λ f. f.now) turns.old.taken) (map (λ f. f.now) turns.old.waiting ++ rest) turns.old.bound) }
@@ -293,36 +322,130 @@ fn take_waiting<'x>(alloc: Global, turns: &mut Turns<'x>) -> Result<(), AllocErr
     ensures bound { OnOk result ((given : List Var) → turns.old.bound ≡ given ++ flat_map occurrences (map (λ f. f.now) turns.old.taken)
         → turns.new.bound ≡ given ++ flat_map occurrences (map (λ f. f.now) turns.new.taken)) }
 {
+    let mut last = part;
+    let mut known = turns.lefts.len();
     loop {
-        let at = first_safe_left(alloc, &mut turns.lefts, &turns.bound)?;
+        let at = first_safe_left(alloc, &mut turns.lefts, known, last, &turns.bound)?;
         if turns.waiting.len() <= at {
             return Ok(());
         }
         let part = turns.waiting.remove(at);
         turns.lefts.remove(at);
         turns.take(alloc, part)?;
+        last = part;
+        known = at;
     }
 }
 
 /// The position of the first of these that is safe, or their number where there is none. Each that was tried and isn't safe
-/// gives way to what is left of it.
+/// gives way to what is left of it. The first `known` were not safe before the last part was taken.
 #[cycle(safe)]
 fn first_safe_left(
     alloc: Global,
     lefts: &mut Formulas,
+    known: usize,
+    last: &Formula,
     bound: &VarList,
 ) -> Result<usize, AllocError>
+    requires { WereUnsafe known lefts.old (occurrences last.now) bound.now }
     ensures position { IfOk result (λ at. at ≡ safe_position lefts.old bound.now) }
     ensures lefts { OnOk result (Rests bound.now lefts.old lefts.new) }
 {
+    let mut fresh = VarList::new(alloc);
+    bind(alloc, &mut fresh, last)?;
     for at in 0..lefts.len() {
-        let tried = trial(alloc, &lefts.as_slice()[at], bound)?;
-        if tried.is_safe {
+        if is_safe_now(alloc, lefts, at, at < known, &fresh, bound)? {
             return Ok(at);
         }
-        lefts.set(at, tried.left);
     }
     Ok(lefts.len())
+}
+
+/// Whether the one at this position is safe. If it was not before the fresh variables were bound, it is tried only where these
+/// may help it. One that was tried gives way to what is left of it.
+#[cycle(safe)]
+fn is_safe_now(
+    alloc: Global,
+    lefts: &mut Formulas,
+    at: usize,
+    was_unsafe: bool,
+    fresh: &VarList,
+    bound: &VarList,
+) -> Result<bool, AllocError>
+    requires in_range { at < length lefts.old }
+    requires before { was_unsafe ≡ true → (before : List Var) × (bound.now ≡ before ++ fresh.now) × (safe (get_or lefts.old at (And [])) before ≡ false) }
+    ensures is_safe { IfOk result (λ ok. ok ≡ safe (get_or lefts.old at (And [])) bound.now) }
+    ensures lefts { OnOk result (Rests bound.now lefts.old lefts.new) }
+    ensures others { OnOk result (drop (at + 1) lefts.new ≡ drop (at + 1) lefts.old) }
+{
+    if stays_unsafe(&lefts.as_slice()[at], was_unsafe, fresh) {
+        return Ok(false);
+    }
+    let tried = trial(alloc, &lefts.as_slice()[at], bound)?;
+    lefts.set(at, tried.left);
+    Ok(tried.is_safe)
+}
+
+fn stays_unsafe(f: &Formula, was_unsafe: bool, fresh: &VarList) -> bool
+    ensures { result ≡ true → (was_unsafe ≡ true) × StaysUnsafe f.now fresh.now }
+{
+    was_unsafe && !may_become_safe(f, fresh)
+}
+
+/// Whether the formula may be safe once the fresh variables are bound. Only comparisons and denials of one part are looked at.
+fn may_become_safe(f: &Formula, fresh: &VarList) -> bool
+    ensures { result ≡ false → StaysUnsafe f.now fresh.now }
+{
+    match f {
+        Formula::Test {
+            cmp: _,
+            left,
+            right,
+        } => is_among(left, fresh) || is_among(right, fresh),
+        Formula::Not(part) => denial_may_become_safe(part.get(), fresh),
+        Formula::Atom { .. }
+        | Formula::And(_)
+        | Formula::Or(_)
+        | Formula::Implies(_, _)
+        | Formula::Exists { .. }
+        | Formula::Forall { .. } => true,
+    }
+}
+
+fn denial_may_become_safe(part: &Formula, fresh: &VarList) -> bool
+    ensures { result ≡ false → StaysUnsafe (Not part.now) fresh.now }
+{
+    match part {
+        Formula::Atom { rel: _, terms } => some_among(terms.as_slice(), fresh),
+        Formula::Test {
+            cmp: _,
+            left,
+            right,
+        } => is_among(left, fresh) || is_among(right, fresh),
+        Formula::And(_)
+        | Formula::Or(_)
+        | Formula::Not(_)
+        | Formula::Implies(_, _)
+        | Formula::Exists { .. }
+        | Formula::Forall { .. } => true,
+    }
+}
+
+/// Whether one of the terms is a fresh variable.
+fn some_among(terms: &[Term], fresh: &VarList) -> bool
+    ensures { result ≡ list_any (is_among fresh.now) terms.now }
+{
+    terms.iter().any(|term| is_among(term, fresh))
+}
+
+/// Whether the term is a fresh variable.
+fn is_among(term: &Term, fresh: &VarList) -> bool
+    ensures { result ≡ is_among fresh.now term.now }
+{
+    match term {
+        Term::Var(var) => fresh.has(var),
+        Term::Const(_) => false,
+    }
 }
 
 /// Whether a comparison is safe: an equation needs one side, another comparison both.
@@ -371,6 +494,9 @@ fn binds_needed(
 ) -> Result<bool, AllocError>
     ensures { IfOk result (λ ok. ok ≡ all_in needed.now (bound.now ++ occurrences part.now)) }
 {
+    if needed.is_empty() {
+        return Ok(true);
+    }
     let mut inside = VarList::new(alloc);
     bind(alloc, &mut inside, part)?;
     Ok(all_in_either(needed, bound, &inside))
@@ -391,16 +517,39 @@ fn in_either(var: &Var, bound: &VarList, inside: &VarList) -> bool
     bound.has(var) || inside.has(var)
 }
 
-/// The free variables of all parts, as often as they occur.
-#[tactic(auto, using(crate::proofs::FreeLaws::joining))]
-fn all_occurrences(alloc: Global, parts: &[Formula]) -> Result<Vars, AllocError>
-    ensures { IfOk result (λ vars. vars ≡ flat_map occurrences parts.now) }
+/// The free variables of the parts that are not bound, each once.
+fn needed_by(alloc: Global, parts: &[Formula], bound: &VarList) -> Result<VarList, AllocError>
+    ensures { IfOk result (λ needed. (more : List Var) → all_in needed (bound.now ++ more) ≡ all_in (flat_map occurrences parts.now) (bound.now ++ more)) }
 {
-    let mut vars = Items::new(alloc);
-    for part in parts {
-        add_occurrences(alloc, &mut vars, part)?;
+    let mut found = Items::new(alloc);
+    add_each(alloc, &mut found, parts)?;
+    unbound_of(alloc, found.as_slice(), bound)
+}
+
+/// Those of the variables that are not bound, each once.
+fn unbound_of(alloc: Global, vars: &[&Var], bound: &VarList) -> Result<VarList, AllocError>
+    ensures { IfOk result (λ needed. (more : List Var) → all_in needed (bound.now ++ more) ≡ all_in (map (λ x. x.now) vars.now) (bound.now ++ more)) }
+{
+    let mut needed = VarList::new(alloc);
+    for var in vars {
+        add_unbound(alloc, &mut needed, *var, bound)?;
     }
-    Ok(vars)
+    Ok(needed)
+}
+
+/// Appends the variable, unless it is bound or there already.
+fn add_unbound(
+    alloc: Global,
+    needed: &mut VarList,
+    var: &Var,
+    bound: &VarList,
+) -> Result<(), AllocError>
+    ensures { OnOk result ((more : List Var) → all_in needed.new (bound.now ++ more) ≡ (all_in needed.old (bound.now ++ more) && is_in var.now (bound.now ++ more))) }
+{
+    if in_either(var, bound, needed) {
+        return Ok(());
+    }
+    needed.push(alloc, var)
 }
 
 /// The bound variables that a quantifier doesn't hide.

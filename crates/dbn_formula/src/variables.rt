@@ -85,8 +85,9 @@ pub(crate) fn add_references<'x>(
     }
 }
 
+/// Appends references to the free variables of all parts, as often as they occur.
 #[cycle(occurrences)]
-fn add_each<'x>(
+pub(crate) fn add_each<'x>(
     alloc: Global,
     out: &mut Items<&'x Var>,
     parts: &'x [Formula],

@@ -5,7 +5,8 @@ use Rattle.std.proofs.lemmas.List.Edits.{length-remove}
 use Rattle.std.proofs.lemmas.List.Sums.{sum_by-remove, sum_by-drop_more}
 use Rattle.std.proofs.lemmas.Result.{IfOk-weaker}
 use Rattle.dbn_formula.specs.Free.{occurrences}
-use Rattle.dbn_formula.specs.Safe.{safe, outside}
+use Rattle.dbn_value.specs.declared.term.Var.{Var}
+use Rattle.dbn_formula.specs.Safe.{safe, outside, all_in}
 use Rattle.dbn_formula.specs.Conjuncts.{first_safe, turns, safe_position}
 use Rattle.dbn_formula.specs.Rest.{Rest, Rests}
 use Rattle.dbn_formula.specs.declared.formula.Formula.{Formula}
@@ -13,7 +14,10 @@ use Rattle.dbn_formula.specs.declared.formula.Formula.TheVariants.{And, Not, Exi
 use Rattle.dbn_formula.proofs.KnownLaws.{nothing_hidden}
 use Rattle.dbn_formula.proofs.Weights.{weight}
 use Rattle.dbn_formula.proofs.Turns.{map_remove, none_waits, turns_begin, same_turns, taken_waiting, none_more, none_there, taken_next, walk_ends}
-use Rattle.dbn_formula.proofs.Trials.{rest_not, rest_exists, rest_or, rest_and, rests_self, rests_then, rests_length, rests_weigh, rests_position, rests_remove, rests_set, rests_begin, rests_over, rests_push, or_more, one_weighs, position_behind, grown_one, within_bound, ahead_weighs}
+use Rattle.dbn_formula.proofs.Trials.{rest_not, rest_exists, rest_or, rest_and, rests_self, rests_then, rests_length, rests_weigh, rests_position, rests_remove, rests_set, rests_begin, rests_over, rests_push, or_more, one_weighs, grown_one, within_bound, ahead_weighs, some_weight}
+use Rattle.dbn_formula.proofs.Waiting.{none_were, taken_were, was_unsafe, position_next, needed_by_each}
+use Rattle.std.proofs.lemmas.Bool.{ltb-true}
+use Rattle.std.proofs.lemmas.Grind.{drop_more_same}
 use Rattle.dbn_formula.proofs.safety.+safe.Goals as goal
 
 abbrev now : Bor Formula → Formula
@@ -57,6 +61,15 @@ trial_inside-returns-clause-left t c =
 
 -- ---- a disjunction
 
+pub any_tried-returns-clause-is_safe : goal.any_tried-returns-clause-is_safe
+any_tried-returns-clause-is_safe t c =
+    let parts = c.args.parts.now in
+    let bound = c.args.bound.now in
+    let needed = c.as_slice.result.now in
+    let same : (more : List Var) → all_in needed (bound ++ more) ≡ all_in (flat_map occurrences parts) (bound ++ more) =
+    λ more. ap (λ vs. all_in vs (bound ++ more)) c.as_slice.ensures ∙ c.in_ok-needed.ensures more in
+    IfOk-weaker c.each_tried.result _ _ (λ tried e. e ∙ needed_by_each parts bound needed (flat_map occurrences parts) same) c.each_tried.ensures.is_safe
+
 pub each_tried-loop-part-preserved : goal.each_tried-loop-part-preserved
 each_tried-loop-part-preserved t c =
     let parts = c.args.parts.now in
@@ -66,8 +79,8 @@ each_tried-loop-part-preserved t c =
     let more : take (i + 1) parts ≡ take i parts ++ part ∷ [] = take_more parts i part (omega arith) ∙ ap (λ (f : Formula). take i parts ++ f ∷ []) (sym c.part-item.is) in
     record {
       all_safe =
-          or_more c.args.bound.now c.args.needed.now (take i parts) (take (i + 1) parts) part c.loop-part.is_safe tried.is_safe c.in_ok-enough.enough c.all_three-is_safe.result
-          c.all_three-is_safe.ensures c.loop-part.invariant.all_safe c.in_ok-tried.ensures.is_safe c.in_ok-enough.ensures more;
+          or_more c.args.bound.now c.args.needed.now (take i parts) (take (i + 1) parts) part c.loop-part.is_safe (safe part c.args.bound.now)
+          (all_in c.args.needed.now (c.args.bound.now ++ occurrences part)) tried.is_safe c.in_ok-tried.ensures.is_safe c.loop-part.invariant.all_safe refl refl more;
       lefts =
           rests_push c.args.bound.now (take (i + 1) parts) (take i parts) c.push.new.self c.loop-part.lefts part tried.left more c.in_ok-push.ensures.ok c.loop-part.invariant.lefts c.in_ok-tried.ensures.left;
     }
@@ -140,9 +153,13 @@ look_at-take_waiting-requires t c =
     let given = c.args.turns.now in
     let turn = c.take.new.self in
     let e : sum_by weight turn.lefts ≡ sum_by weight given.lefts = ap (sum_by weight) c.in_ok-take.ensures.lefts in (
-      omega (arith, e),
-      rests_over given.bound turn.bound (map now turn.waiting) (map now given.waiting) turn.lefts given.lefts (within_bound given.bound turn.bound c.args.part.now c.in_ok-take.ensures.bound)
-          (ap (map now) c.in_ok-take.ensures.waiting) c.in_ok-take.ensures.lefts c.requires.lefts,
+      omega (arith, e, some_weight c.args.part.now),
+      (
+        rests_over given.bound turn.bound (map now turn.waiting) (map now given.waiting) turn.lefts given.lefts (within_bound given.bound turn.bound c.args.part.now c.in_ok-take.ensures.bound)
+            (ap (map now) c.in_ok-take.ensures.waiting) c.in_ok-take.ensures.lefts c.requires.lefts,
+        none_were (map now given.waiting) given.lefts given.bound turn.bound (occurrences c.args.part.now) turn.lefts c.requires.none_safe c.requires.lefts
+            c.in_ok-take.ensures.bound c.in_ok-take.ensures.lefts,
+      ),
     )
 
 pub look_at-returns-then-tried-clause-same_turns : goal.look_at-returns-then-tried-clause-same_turns
@@ -254,21 +271,31 @@ take_waiting-loop-at-preserved t c =
           let b : sum_by weight (remove after at) + weight (get_or after at part.now) ≡ sum_by weight after = sum_by-remove weight after at part.now below in
           let d : sum_by weight after ≤ sum_by weight lefts = rests_weigh bound lefts after tried in
           omega (arith, a, b, d, c.loop-at.invariant.lighter);
+      were_unsafe =
+          taken_were after turn.lefts bound turn.bound (occurrences part.now) at
+          (c.in_ok-at.ensures.position ∙ sym (rests_position bound lefts after tried)) left c.in_ok-take.ensures.bound;
     }
 
 -- ---- the first safe one
 
 pub first_safe_left-loop-at-init : goal.first_safe_left-loop-at-init
-first_safe_left-loop-at-init t c = record { position = omega arith; lefts = rests_self c.args.bound.now c.args.lefts.now; long = refl }
+first_safe_left-loop-at-init t c = record { position = omega arith; lefts = rests_self c.args.bound.now c.args.lefts.now; long = refl; ahead = refl }
 
-pub first_safe_left-trial-requires : goal.first_safe_left-trial-requires
-first_safe_left-trial-requires t c =
+pub first_safe_left-is_safe_now-requires : goal.first_safe_left-is_safe_now-requires
+first_safe_left-is_safe_now-requires t c =
+    let bound = c.args.bound.now in
+    let given = c.args.lefts.now in
     let lefts = c.loop-at.lefts in
-    let looked = c.index-as_slice-at.result in
-    let here : looked ≡ get_or lefts c.loop-at.at looked = c.index-as_slice-at.is ∙ ap (λ fs. get_or fs c.loop-at.at looked) c.as_slice.ensures in
-    let below : c.loop-at.at < length lefts = omega (arith, c.loop-at.invariant.long, c.loop-at-test.true, c.len-at-end.ensures) in
-    let less : weight looked ≤ sum_by weight c.args.lefts.now = one_weighs c.args.bound.now c.args.lefts.now lefts c.loop-at.at looked c.loop-at.invariant.lefts below here in
-    (omega (arith, less), tt)
+    let at = c.loop-at.at in
+    let below : at < length lefts = omega (arith, c.loop-at.invariant.long, c.loop-at-test.true, c.len-at-end.ensures) in
+    let lighter : sum_by weight lefts ≤ sum_by weight given = rests_weigh bound given lefts c.loop-at.invariant.lefts in (
+      omega (arith, lighter),
+      (
+        below,
+        λ e. was_unsafe given lefts at c.args.known c.bind.new.bound (occurrences c.args.last.now) c.new-fresh.result bound below c.loop-at.invariant.long c.loop-at.invariant.ahead
+            c.in_ok-bind.ensures c.new-fresh.ensures (ltb-true at c.args.known e) c.requires,
+      ),
+    )
 
 pub first_safe_left-loop-at-preserved : goal.first_safe_left-loop-at-preserved
 first_safe_left-loop-at-preserved t c =
@@ -276,18 +303,40 @@ first_safe_left-loop-at-preserved t c =
     let given = c.args.lefts.now in
     let lefts = c.loop-at.lefts in
     let at = c.loop-at.at in
-    let looked = c.index-as_slice-at.result in
-    let left = c.in_ok-tried.tried.left in
-    let here : looked ≡ get_or lefts at looked = c.index-as_slice-at.is ∙ ap (λ fs. get_or fs at looked) c.as_slice.ensures in
+    let after = c.is_safe_now.new.lefts in
     let below : at < length lefts = omega (arith, c.loop-at.invariant.long, c.loop-at-test.true, c.len-at-end.ensures) in
-    let fails : safe (get_or lefts at looked) bound ≡ false = ap (λ f. safe f bound) (sym here) ∙ sym c.in_ok-tried.ensures.is_safe ∙ c.if-tried.false in
-    let kept : Rests bound given c.set.new.self =
-    subst (Rests bound given) (sym c.set.ensures)
-    (rests_set bound given lefts at looked left c.loop-at.invariant.lefts below (subst (λ f. Rest bound f left) here c.in_ok-tried.ensures.left)) in
+    let fails : safe (get_or lefts at (And [])) bound ≡ false = sym c.in_ok-is_safe_now.ensures.is_safe ∙ c.if-branch.false in
+    let kept : Rests bound given after = rests_then bound given lefts after c.loop-at.invariant.lefts c.in_ok-is_safe_now.ensures.lefts in
     record {
-      position =
-          subst (λ fs. safe_position given bound ≡ at + 1 + safe_position (drop (at + 1) fs) bound) (sym c.set.ensures)
-          (position_behind lefts at (safe_position given bound) looked left bound below c.loop-at.invariant.position fails);
+      position = position_next lefts after at (safe_position given bound) (And []) bound below c.loop-at.invariant.position fails c.in_ok-is_safe_now.ensures.others;
       lefts = kept;
-      long = rests_length bound given c.set.new.self kept;
+      long = rests_length bound given after kept;
+      ahead = c.in_ok-is_safe_now.ensures.others ∙ drop_more_same lefts given at c.loop-at.invariant.ahead;
     }
+
+pub first_safe_left-returns-then-branch-clause-lefts : goal.first_safe_left-returns-then-branch-clause-lefts
+first_safe_left-returns-then-branch-clause-lefts t c =
+    rests_then c.args.bound.now c.args.lefts.now c.loop-at.lefts c.is_safe_now.new.lefts c.loop-at.invariant.lefts c.in_ok-is_safe_now.ensures.lefts
+
+-- ---- one of them
+
+pub is_safe_now-returns-then-stays_unsafe-clause-lefts : goal.is_safe_now-returns-then-stays_unsafe-clause-lefts
+is_safe_now-returns-then-stays_unsafe-clause-lefts t c = rests_self c.args.bound.now c.args.lefts.now
+
+pub is_safe_now-returns-clause-lefts : goal.is_safe_now-returns-clause-lefts
+is_safe_now-returns-clause-lefts t c =
+    let bound = c.args.bound.now in
+    let lefts = c.args.lefts.now in
+    let looked = c.index-as_slice-at-2.result in
+    let left = c.in_ok-tried.tried.left in
+    let here : looked ≡ get_or lefts c.args.at looked = c.index-as_slice-at-2.is ∙ ap (λ fs. get_or fs c.args.at looked) c.as_slice-2.ensures in
+    subst (Rests bound lefts) (sym c.set.ensures)
+    (rests_set bound lefts lefts c.args.at looked left (rests_self bound lefts) c.requires.in_range (subst (λ f. Rest bound f left) here c.in_ok-tried.ensures.left))
+
+pub is_safe_now-trial-requires : goal.is_safe_now-trial-requires
+is_safe_now-trial-requires t c =
+    let lefts = c.args.lefts.now in
+    let looked = c.index-as_slice-at-2.result in
+    let here : looked ≡ get_or lefts c.args.at looked = c.index-as_slice-at-2.is ∙ ap (λ fs. get_or fs c.args.at looked) c.as_slice-2.ensures in
+    let less : weight looked ≤ sum_by weight lefts = one_weighs c.args.bound.now lefts lefts c.args.at looked (rests_self c.args.bound.now lefts) c.requires.in_range here in
+    (omega (arith, less), tt)

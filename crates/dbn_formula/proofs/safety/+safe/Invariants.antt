@@ -5,6 +5,7 @@ use Rattle.dbn_formula.specs.Free.{occurrences}
 use Rattle.dbn_formula.specs.Safe.{safe, all_in}
 use Rattle.dbn_formula.specs.Conjuncts.{first_safe, safe_position, turns, turns_after}
 use Rattle.dbn_formula.specs.Rest.{Rests}
+use Rattle.dbn_formula.specs.Waiting.{WereUnsafe}
 use Rattle.dbn_formula.specs.declared.formula.Formula.{Formula}
 use Rattle.dbn_formula.proofs.Weights.{weight}
 use Rattle.dbn_formula.proofs.safety.+safe.Given as goal
@@ -15,8 +16,14 @@ decreases-trial l = weight l.f.now
 abbrev pub decreases-trial_inside : goal.decreases-trial_inside
 decreases-trial_inside l = weight l.body.now + 1
 
+abbrev pub decreases-any_tried : goal.decreases-any_tried
+decreases-any_tried l = sum_by weight l.parts.now + 3
+
 abbrev pub decreases-each_tried : goal.decreases-each_tried
-decreases-each_tried l = sum_by weight l.parts.now + 1
+decreases-each_tried l = sum_by weight l.parts.now + 2
+
+abbrev pub decreases-part_tried : goal.decreases-part_tried
+decreases-part_tried l = weight l.part.now + 1
 
 abbrev pub decreases-all_tried : goal.decreases-all_tried
 decreases-all_tried l = sum_by weight l.parts.now + 5
@@ -28,10 +35,13 @@ abbrev pub decreases-look_at : goal.decreases-look_at
 decreases-look_at l = sum_by weight l.turns.now.lefts + weight l.part.now + 3
 
 abbrev pub decreases-take_waiting : goal.decreases-take_waiting
-decreases-take_waiting l = sum_by weight l.turns.now.lefts + 2
+decreases-take_waiting l = sum_by weight l.turns.now.lefts + 3
 
 abbrev pub decreases-first_safe_left : goal.decreases-first_safe_left
-decreases-first_safe_left l = sum_by weight l.lefts.now + 1
+decreases-first_safe_left l = sum_by weight l.lefts.now + 2
+
+abbrev pub decreases-is_safe_now : goal.decreases-is_safe_now
+decreases-is_safe_now l = sum_by weight l.lefts.now + 1
 
 abbrev pub invariant-each_tried-loop-part : goal.invariant-each_tried-loop-part
 invariant-each_tried-loop-part l = record {
@@ -56,6 +66,7 @@ invariant-take_waiting-loop-at l = record {
   grown : (given : List Var) → l.fn.turns.bound ≡ given ++ flat_map occurrences (map (λ f. f.now) l.fn.turns.taken)
       → l.turns.bound ≡ given ++ flat_map occurrences (map (λ f. f.now) l.turns.taken);
   lighter : sum_by weight l.turns.lefts ≤ sum_by weight l.fn.turns.lefts;
+  were_unsafe : WereUnsafe l.known l.turns.lefts (occurrences l.last) l.turns.bound;
 }
 
 abbrev pub decreases-take_waiting-loop-at : goal.decreases-take_waiting-loop-at
@@ -67,4 +78,5 @@ invariant-first_safe_left-loop-at l = record {
   position : safe_position l.fn.lefts l.bound ≡ l.at + safe_position (drop l.at l.lefts) l.bound;
   lefts : Rests l.bound l.fn.lefts l.lefts;
   long : length l.lefts ≡ length l.fn.lefts;
+  ahead : drop l.at l.lefts ≡ drop l.at l.fn.lefts;
 }
