@@ -101,7 +101,7 @@ things_more b xs i x begin was new within is before made =
     made ∙ ap (λ ys. ys ++ b ∷ []) before ∙ append_assoc begin (map (λ y. b) (take i xs)) (b ∷ [])
     ∙ ap (λ ys. begin ++ ys) (sym (ap (map (λ y. b)) (take_more xs i x within is) ∙ map-append (λ y. b) (take i xs) (x ∷ [])))
 
-same_at : {A B : Type 0} (b : B) (xs : List A) (k : ℕ) → get_or (map (λ x. b) xs) k b ≡ b
+pub same_at : {A B : Type 0} (b : B) (xs : List A) (k : ℕ) → get_or (map (λ x. b) xs) k b ≡ b
 same_at b [] k = refl
 same_at b (x ∷ xs) zero = refl
 same_at b (x ∷ xs) (suc k) = same_at b xs k

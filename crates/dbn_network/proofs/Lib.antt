@@ -9,4 +9,5 @@ pub mod PassLaws
 pub mod RunLaws
 pub mod TableLaws
 pub mod ValueLaws
+pub mod WalkLaws
 pub mod WorkedLaws

@@ -24,10 +24,12 @@ use Rattle.dbn_network.specs.States.{State, width_at, feed_widths, widths, IsThe
 use Rattle.dbn_network.specs.Loads.{all_loads, loads_of, bound}
 use Rattle.dbn_network.specs.Passes.{Alike, Costs, Passed, StandsAt}
 use Rattle.dbn_network.specs.Holding.{nodes_of, held_rows, feeds_of, AreEarlier, Marked, IsNetwork}
+use Rattle.dbn_network.specs.Walks.{longer, AreWalks}
 use Rattle.dbn_network.proofs.PassLaws.{alike_nodes}
 use Rattle.dbn_network.proofs.FeedLaws.{Table, after, feed_sorted, fits_leads, Noted, noted}
 use Rattle.dbn_network.proofs.HoldLaws.{count_nodes, node_at, before, after_sorted, network_after}
 use Rattle.dbn_network.proofs.CostLaws.{count_loads, within_bound}
+use Rattle.dbn_network.proofs.WalkLaws.{walks_more}
 use Rattle.dbn_network.proofs.AddLaws.{earlier_of, fits_there, nodes_after, network_more}
 
 module _ {C : Type 0} where
@@ -49,6 +51,9 @@ module _ {C : Type 0} {R : C → C → Ordering} (o : IsTotalOrder R) (exact : I
     (view : meant live rels shapes (nodes_of states) (feeds_of R tables) ≡ old) (inv : IsTrue live → IsNetwork R shapes states tables) (is_live : IsTrue old.live) where
   pub network_is : IsNetwork R shapes states tables
   network_is = inv (subst IsTrue (sym (ap (λ (s : State C). s.live) view)) is_live)
+
+  pub walks_kept : (walks : List (List ℕ)) (made : List (List (Event C))) → (IsTrue live → AreWalks (length tables) states walks made) → AreWalks (length tables) states walks made
+  walks_kept walks made kept = kept (subst IsTrue (sym (ap (λ (s : State C). s.live) view)) is_live)
 
   pub are_earlier : AreEarlier (length tables) states
   are_earlier = earlier_of shapes states tables network_is
@@ -128,3 +133,11 @@ module _ {C : Type 0} {R : C → C → Ordering} (o : IsTotalOrder R) (exact : I
         ∙ ap (λ k. meant true rels shapes (nodes_of states ++ k ∷ []) (feeds_of R tables)) is
         ∙ ap (λ b. meant b rels shapes (nodes_of states ++ n ∷ []) (feeds_of R tables)) (sym (ap (λ (s : State C). s.live) view ∙ is_live))
         ∙ ap (λ (s : State C). with_node s n) view
+
+    pub added_walks : (marked : List (Held C)) (h : Held C) → h.state.node ≡ n → Marked states marked h.state.node → StandsAt R h (feeds_of R tables) (values R (feeds_of R tables) (nodes_of states))
+        → (walks longest : List (List ℕ)) (made : List (List (Event C))) (left right : Input) (number : ℕ) → (IsTrue live → AreWalks (length tables) states walks made) → left ≡ left_in h.state.node → right ≡ right_in h.state.node → number ≡ length states
+        → length longest ≡ length walks → ((k : ℕ) → k < length walks → get_or longest k [] ≡ longer k (get_or walks k []) left right number) → AreWalks (length tables) (marked ++ h ∷ []) longest (made ++ [] ∷ [])
+    added_walks marked h is m stands walks longest made left right number kept left_is right_is last size grown =
+        walks_more (length tables) states (marked ++ h ∷ []) walks longest made h.state.node number (walks_kept walks made kept)
+        (nodes_after shapes states tables network_is marked h m (subst (FitsAt (feed_widths shapes) (widths (feed_widths shapes) (nodes_of states)) (length states)) (sym is) fits_now) stands) last size
+        (λ k within. grown k within ∙ ap (λ x. longer k (get_or walks k []) x right number) left_is ∙ ap (λ x. longer k (get_or walks k []) (left_in h.state.node) x number) right_is)

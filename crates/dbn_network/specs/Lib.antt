@@ -4,4 +4,5 @@ pub mod Loads
 pub mod Passes
 pub mod States
 pub mod Values
+pub mod Walks
 pub mod Worked

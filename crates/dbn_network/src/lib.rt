@@ -11,6 +11,7 @@ mod pass;
 mod running;
 mod step;
 mod tables;
+mod walks;
 
 pub use input::Input;
 pub use network::Network;

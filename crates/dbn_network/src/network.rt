@@ -16,9 +16,11 @@ use super::counting::{has_none, has_row, held_of_node, table_of_node};
 use super::feeds::{note_at, push_tables};
 use super::held::Held;
 use super::input::{left_input, right_input};
-use super::pass::pass;
-use dbn_nodes::{Event, Keyed, Node, Steps};
+use super::pass::run;
+use super::walks::{Walk, lengthen_all, push_walks};
+use dbn_nodes::{Event, Events, Keyed, Node, Steps};
 use dbn_value::{Cell, Row, RowsOf, Shapes};
+use sqlite_items::Items;
 use std::alloc::{AllocError, Global};
 use std::marker::{Brand, Model};
 use std::sync::ledger::{Blank, Ledger};
@@ -32,19 +34,22 @@ pub struct Network<C: Cell> {
     places: Shapes,
     states: Vec<Held<C>>,
     feeds: Vec<Keyed<C>>,
+    walks: Vec<Walk>,
+    made: Vec<Events<C>>,
 }
 
 impl<C: Cell> Model for Network<C> {
-    ghost use Rattle.std.specs.Prelude.{◌++◌, IsTrue};
+    ghost use Rattle.std.specs.Prelude.{◌++◌, length, IsTrue};
     ghost use Rattle.dbn_network.specs.States.{State};
 
     ghost Value = { State C };
 
     ghost use Rattle.dbn_network.specs.Holding.{nodes_of, feeds_of, IsNetwork};
+    ghost use Rattle.dbn_network.specs.Walks.{AreWalks};
 
     ghost view = { λ n. record { live = n.live; rels = n.rels; shapes = n.rels ++ n.places; nodes = nodes_of n.states.items; feeds = feeds_of C.cmp n.feeds.items } };
 
-    ghost invariant = { λ n. IsTrue n.live → IsNetwork C.cmp (n.rels ++ n.places) n.states.items n.feeds.items };
+    ghost invariant = { λ n. IsTrue n.live → IsNetwork C.cmp (n.rels ++ n.places) n.states.items n.feeds.items × AreWalks (length n.feeds.items) n.states.items n.walks.items n.made.items };
 }
 
 impl<C: Cell> Network<C> {
@@ -56,12 +61,17 @@ impl<C: Cell> Network<C> {
         let mut feeds = Vec::new(alloc);
         push_tables(alloc, &mut feeds, rels.as_slice())?;
         push_tables(alloc, &mut feeds, places.as_slice())?;
+        let mut walks = Vec::new(alloc);
+        push_walks(alloc, &mut walks, rels.as_slice())?;
+        push_walks(alloc, &mut walks, places.as_slice())?;
         Ok(Network {
             live: true,
             rels,
             places,
             states: Vec::new(alloc),
             feeds,
+            walks,
+            made: Vec::new(alloc),
         })
     }
 
@@ -99,7 +109,15 @@ impl<C: Cell> Network<C> {
     {
         self.live = false;
         note_at(alloc, &mut self.feeds, feed, event, steps)?;
-        pass(alloc, &mut self.states, feed, event, steps)?;
+        run(
+            alloc,
+            &mut self.states,
+            &mut self.made,
+            self.walks.as_slice(),
+            feed,
+            event,
+            steps,
+        )?;
         self.live = true;
         Ok(())
     }
@@ -122,9 +140,13 @@ impl<C: Cell> Network<C> {
             Blank::new(1),
         )?;
         let number = self.states.len();
-        mark_read(&mut self.states, left_input(&held.state.node));
-        mark_read(&mut self.states, right_input(&held.state.node));
+        let left = left_input(&held.state.node);
+        let right = right_input(&held.state.node);
+        lengthen_all(&mut self.walks, &left, &right, number)?;
+        mark_read(&mut self.states, left);
+        mark_read(&mut self.states, right);
         self.states.push(held)?;
+        self.made.push(Items::new(alloc))?;
         self.live = true;
         Ok(number)
     }
