@@ -3,6 +3,7 @@ pub mod AtomMade
 pub mod ColumnLaws
 pub mod ComparingLaws
 pub mod ComparisonMade
+pub mod DeniedLaws
 pub mod DrawnLaws
 pub mod FormsReady
 pub mod FormulaLaws

@@ -46,7 +46,7 @@ use Rattle.dbn_plan.proofs.MadeLaws.{stands_grown, var_label}
 use Rattle.dbn_plan.proofs.FormsReady.{and_ready, not_ready, exists_ready}
 use Rattle.dbn_plan.proofs.TopLaws.{unit_stands}
 
-lacking_size : (left right : Formula) → size (lacking left right) ≡ 2 + size left + size right
+pub lacking_size : (left right : Formula) → size (lacking left right) ≡ 2 + size left + size right
 lacking_size left right = let outer = size_and (left ∷ Not right ∷ []) in let inner = size_not right in omega (arith, outer, inner)
 
 referring_count : (r old one two five new k s l b whole : ℕ) → one + 4 ≤ old + r * l → two + 4 ≤ one + r * b → five ≤ two + 3 → new + 10 * k ≤ five + r * k → s ≡ 2 + l + b → whole ≡ max 1 k + s → new + 2 ≤ old + r * whole
@@ -63,6 +63,12 @@ referring_count r old one two five new (suc k) s l b whole first second less roo
 vars_within : (wanted labels : List Term) → ((a : Term) → In a wanted → In a labels) → (x : Var) → In x (vars_of wanted) → In x (vars_of labels)
 vars_within wanted labels within x at = let found = in_flat variable_of x wanted at in flat_in variable_of x found.0 labels (within found.0 found.1) found.2
 
+-- the variables of both parts are those of the first
+pub within_left : (left right : Formula) → ((x : Var) → In x (occurrences right) → In x (occurrences left)) → (x : Var) → In x (occurrences (lacking left right)) → In x (occurrences left)
+within_left left right within x at =
+    ⊎_elim (λ here. here) (λ there. ⊎_elim (λ not_one. within x (subst (In x) (occurrences_not right) not_one)) (λ none. absurd none) (in_append x (occurrences (Not right)) [] there))
+    (in_append x (occurrences left) (occurrences (Not right) ++ []) (subst (In x) (occurrences_and (left ∷ Not right ∷ [])) at))
+
 module _ {C : Type 0} {R : C → C → Ordering} {int_of : C → Option ℤ} (cell_of : Value → Option C) where
   -- what the difference of the two projections says, in one world
   module _ (consts : List Value) (rels : Shapes) (w : World R int_of cell_of consts rels) (vars scope : TypedVars) (left right : Formula) where
@@ -71,11 +77,6 @@ module _ {C : Type 0} {R : C → C → Ordering} {int_of : C → Option ℤ} (ce
 
     abbrev room : Bool
     room = list_all (λ y. is_in y.0 (occurrences (lacking left right)) || not (is_empty (w.dom y.1))) vars
-
-    within_left : ((x : Var) → In x (occurrences right) → In x (occurrences left)) → (x : Var) → In x (occurrences (lacking left right)) → In x (occurrences left)
-    within_left within x at =
-        ⊎_elim (λ here. here) (λ there. ⊎_elim (λ not_one. within x (subst (In x) (occurrences_not right) not_one)) (λ none. absurd none) (in_append x (occurrences (Not right)) [] there))
-        (in_append x (occurrences left) (occurrences (Not right) ++ []) (subst (In x) (occurrences_and (left ∷ Not right ∷ [])) at))
 
     pub lacking_says : (rows : List (List C)) (wanted : List Term) (d : Drawn (vars_of wanted) (λ t. true && holds_over w.dom w.db left t))
         → Fit consts rels (Exists vars (lacking left right)) scope [] → occurrences (Exists vars (lacking left right)) ≡ []
@@ -100,7 +101,7 @@ module _ {C : Type 0} {R : C → C → Ordering} {int_of : C → Option ℤ} (ce
               (and_from (holds_over w.dom w.db (Not right) s) true (holds_not w.dom w.db right s ∙ none) refl) in
               let values = valued s from.2 in
               depends w.dom w.db (Exists vars f) t s (λ x at. absurd (subst (In x) closed at))
-              ∙ some_from w vars scope f s fits.2 (record { each = λ x at. values.each x (within_left within x at) }) (room_is w vars f outer.1) body;
+              ∙ some_from w vars scope f s fits.2 (record { each = λ x at. values.each x (within_left left right within x at) }) (room_is w vars f outer.1) body;
           back = λ t e.
               let choice = choice_out w.dom vars scope (holds_over w.dom w.db f) t (sym (holds_exists w.dom w.db vars f t) ∙ e) in
               let s : Env = choice.0 in
@@ -198,28 +199,36 @@ none_free f vars e none = no_members (occurrences f) (λ x at. absurd (subst (In
 
 -- ---- its parts are ready
 
-module _ {C : Type 0} (cell_of : Value → Option C) (rels : Shapes) (vars : TypedVars) (left right : Formula) (ready : IsReady cell_of rels [] (Exists vars (lacking left right))) where
-  body_ready : IsReady cell_of rels [] (lacking left right)
-  body_ready = exists_ready cell_of rels [] vars (lacking left right) ready
-
+module _ {C : Type 0} (cell_of : Value → Option C) (rels : Shapes) (left right : Formula) (ready : IsReady cell_of rels [] (lacking left right)) where
   parts_turn : in_turn (map as_level (left ∷ Not right ∷ [])) [] ≡ true
-  parts_turn = sym (in_order_and (left ∷ Not right ∷ []) []) ∙ body_ready.safe
+  parts_turn = sym (in_order_and (left ∷ Not right ∷ []) []) ∙ ready.safe
 
-  pub left_ready : IsReady cell_of rels [] left
-  left_ready = and_ready cell_of rels rels [] [] (left ∷ Not right ∷ []) left (inl refl) refl body_ready (first_safe left (Not right ∷ []) [] parts_turn)
+  pub first_ready : IsReady cell_of rels [] left
+  first_ready = and_ready cell_of rels rels [] [] (left ∷ Not right ∷ []) left (inl refl) refl ready (first_safe left (Not right ∷ []) [] parts_turn)
 
   denied_safe : safe_in_order (Not right) (occurrences left) ≡ true
   denied_safe = first_safe (Not right) [] (occurrences left) (and_parts (safe_in_order left []) (in_turn (map as_level (Not right ∷ [])) (occurrences left)) parts_turn).1
 
-  pub right_within : (x : Var) → In x (occurrences right) → In x (occurrences left)
-  right_within x at =
+  pub second_within : (x : Var) → In x (occurrences right) → In x (occurrences left)
+  second_within x at =
       in_of_is x (occurrences left)
       (all_at (λ y. is_in y (occurrences left)) x (occurrences right) (and_parts (all_in (occurrences right) (occurrences left)) (safe_in_order right (occurrences left)) (sym (in_order_not right (occurrences left)) ∙ denied_safe)).0 at)
 
+  pub second_ready : IsReady cell_of rels (occurrences left) right
+  second_ready = not_ready cell_of rels (occurrences left) right (and_ready cell_of rels rels [] (occurrences left) (left ∷ Not right ∷ []) (Not right) (inr (inl refl)) refl ready denied_safe)
+
+module _ {C : Type 0} (cell_of : Value → Option C) (rels : Shapes) (vars : TypedVars) (left right : Formula) (ready : IsReady cell_of rels [] (Exists vars (lacking left right))) where
+  body_ready : IsReady cell_of rels [] (lacking left right)
+  body_ready = exists_ready cell_of rels [] vars (lacking left right) ready
+
+  pub left_ready : IsReady cell_of rels [] left
+  left_ready = first_ready cell_of rels left right body_ready
+
+  pub right_within : (x : Var) → In x (occurrences right) → In x (occurrences left)
+  right_within x at = second_within cell_of rels left right body_ready x at
+
   pub right_ready : safe_in_order right [] ≡ true → IsReady cell_of rels [] right
-  right_ready alone =
-      let own = not_ready cell_of rels (occurrences left) right (and_ready cell_of rels rels [] (occurrences left) (left ∷ Not right ∷ []) (Not right) (inr (inl refl)) refl body_ready denied_safe) in
-      record { safe = alone; arity = own.arity; cells = own.cells }
+  right_ready alone = let own = second_ready cell_of rels left right body_ready in record { safe = alone; arity = own.arity; cells = own.cells }
 
 -- the labels of the second part's variables are there behind a part that has them
 pub wanted_in : (f g : Formula) (labels wanted inner : List Term) → ((x : Var) → In x (occurrences g) → In x (occurrences f)) → WithVars (firsts (occurrences g)) labels wanted → Labels (occurrences f) labels inner

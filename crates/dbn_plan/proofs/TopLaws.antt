@@ -12,7 +12,7 @@ use Rattle.std.specs.Map.{lookup as lookup_in}
 use Rattle.std.specs.Ordering.{nat_cmp}
 use Rattle.dbn_value.specs.Members.{In}
 use Rattle.dbn_value.specs.Coding.{Extends, IsCoding}
-use Rattle.dbn_value.proofs.MemberLaws.{in_append, append_right, in_filter, filter_in, in_flat, at_in, in_map, map_in}
+use Rattle.dbn_value.proofs.MemberLaws.{all_at, in_append, append_right, in_filter, filter_in, in_flat, at_in, in_map, map_in}
 use Rattle.dbn_value.proofs.AscendingLaws.{in_ascending, ascending_in}
 use Rattle.dbn_value.specs.Order.{value_cmp, value_type, value_total, exact_values}
 use Rattle.dbn_value.specs.declared.value.Value.{Value}
@@ -92,6 +92,10 @@ module _ (rels : Shapes) (vars : TypedVars) (f : Formula) (accepted : AcceptsQue
   -- each variable of the query occurs
   pub query_occurs : (form : Formula) → form ≡ solvable f → (x : Var) → binds vars x ≡ true → In x (occurrences form)
   query_occurs form e x b = subst (λ g. In x (occurrences g)) (sym e) ((solvable_free f).back x (accepted.all_free x b))
+
+  -- and each variable that occurs is one of the query
+  pub query_bound : (form : Formula) → form ≡ solvable f → (x : Var) → In x (occurrences form) → binds vars x ≡ true
+  query_bound form e x at = all_at (binds vars) x (occurrences f) sound_types.2 ((solvable_free f).there x (subst (λ g. In x (occurrences g)) e at))
 
 -- ---- the world of an instance
 

@@ -1,24 +1,28 @@
 ghost use Rattle.std.specs.Prelude.{◌≡◌, true, List, [], IfOk, IfSome, IsTrue};
+ghost use Rattle.std.specs.List.{list_all};
 ghost use Rattle.dbn_value.specs.Members.{In};
 ghost use Rattle.dbn_value.specs.declared.term.Var.{Var as OfVar};
 ghost use Rattle.dbn_value.specs.declared.term.Term.{Term as OfTerm};
 ghost use Rattle.dbn_formula.specs.declared.formula.Formula.{Formula};
 ghost use Rattle.dbn_formula.specs.Free.{occurrences};
 ghost use Rattle.dbn_formula.specs.Safe.{safe_in_order};
+ghost use Rattle.dbn_formula.specs.Variables.{binds, is_in};
+ghost use Rattle.dbn_plan.specs.Meaning.{vars_of};
 ghost use Rattle.dbn_plan.specs.Making.{IsOpen, Placed, AreSources, IsReady};
-ghost use Rattle.dbn_plan.specs.Answering.{Rooted};
-ghost use Rattle.dbn_plan.specs.Referring.{lacking, IsLacking, Difference};
+ghost use Rattle.dbn_plan.specs.Answering.{Rooted, Finished, var_labels};
+ghost use Rattle.dbn_plan.specs.Referring.{lacking, IsLacking, IsSolved, IsDifference, Difference, DeniedMade};
 
 use super::context::Context;
 use super::forms::compile_at;
 use super::labels::labels_behind;
-use super::room::with_room;
+use super::room::{is_among, with_room};
 use super::sources::Sources;
 use super::steps::shown;
 use dbn_formula::{Formula, free};
 use dbn_network::Network;
 use dbn_nodes::Node;
-use dbn_value::{Cell, Coder, Terms, TypedVars};
+use dbn_value::{Cell, ColType, Coder, CopyIn, Terms, TypedVars, Var};
+use sqlite_items::Items;
 use std::alloc::{AllocError, Global};
 
 /// Whether the formula is an atom.
@@ -42,11 +46,11 @@ fn is_plain(f: &Formula) -> bool
     }
 }
 
-/// The parts of a body that says: the first one holds, and the second one, which is solved by itself, doesn't.
-pub(crate) fn lacking_parts(body: &Formula) -> Option<(&Formula, &Formula)>
-    ensures { IfSome result (λ p. IsLacking body.now p.0.now p.1.now) }
+/// The parts of a formula that says: the first one holds, and the second one doesn't.
+pub(crate) fn denied_parts(form: &Formula) -> Option<(&Formula, &Formula)>
+    ensures { IfSome result (λ p. form.now ≡ lacking p.0.now p.1.now) }
 {
-    match body {
+    match form {
         Formula::And(parts) => two_parts(parts.as_slice()),
         _ => None,
     }
@@ -54,14 +58,24 @@ pub(crate) fn lacking_parts(body: &Formula) -> Option<(&Formula, &Formula)>
 
 /// The same of the parts of an `and`.
 fn two_parts(parts: &[Formula]) -> Option<(&Formula, &Formula)>
-    ensures { IfSome result (λ p. IsLacking (Formula.And parts.now) p.0.now p.1.now) }
+    ensures { IfSome result (λ p. Formula.And parts.now ≡ lacking p.0.now p.1.now) }
 {
     if parts.len() != 2 {
         return None;
     }
     match &parts[1] {
-        Formula::Not(right) => plain_parts(&parts[0], right.get()),
+        Formula::Not(right) => Some((&parts[0], right.get())),
         _ => None,
+    }
+}
+
+/// The same, where the second part is solved by itself.
+pub(crate) fn lacking_parts(body: &Formula) -> Option<(&Formula, &Formula)>
+    ensures { IfSome result (λ p. IsLacking body.now p.0.now p.1.now) }
+{
+    match denied_parts(body) {
+        Some((left, right)) => plain_parts(left, right),
+        None => None,
     }
 }
 
@@ -130,6 +144,7 @@ fn difference<C: Cell>(
     requires in_right { (a : OfTerm) → In a wanted → In a right.now.labels }
     ensures made { IfOk result (λ b. Difference C.cmp C.int_of network.old network.new left.now.node left.now.labels right.now.node right.now.labels b.node wanted) }
     ensures labels { IfOk result (λ b. b.labels ≡ wanted) }
+    ensures kept { IfOk result (λ b. IsDifference network.new b.node) }
 {
     let from = shown(alloc, left.node, &left.labels, &wanted, network)?;
     let other = shown(alloc, right.node, &right.labels, &wanted, network)?;
@@ -144,4 +159,84 @@ fn difference<C: Cell>(
         node,
         labels: wanted,
     })
+}
+
+/// Whether the formula is solved by itself, with a column for each of the variables. An error is want of memory.
+fn is_solved_alone(alloc: Global, f: &Formula, vars: &TypedVars) -> Result<bool, AllocError>
+    ensures { IfOk result (λ alone. IsTrue alone → IsSolved f.now vars.now) }
+{
+    if !is_plain(f) {
+        return Ok(false);
+    }
+    let own = free(alloc, f)?;
+    Ok(are_among(own.as_slice(), vars.as_slice()))
+}
+
+/// Whether each of the variables is one of these.
+pub(crate) fn are_among(own: &[Var], vars: &[(Var, ColType)]) -> bool
+    ensures { result ≡ list_all (λ v. is_in v.0 own.now) vars.now }
+{
+    vars.iter().all(|v| is_among(own, &v.0))
+}
+
+/// The rows that a part denies: those of the part by itself, where it has a column for each variable of the query, and else those
+/// behind the first part.
+fn denied_rows<P: Coder>(
+    alloc: Global,
+    right: &Formula,
+    vars: &TypedVars,
+    unit: &Context,
+    first: &Context,
+    sources: &Sources,
+    coder: &P,
+    network: &mut Network<P::Cell>,
+) -> Result<Context, AllocError>
+    requires open { IsOpen network.old }
+    requires placed { Placed network.old first.now.node first.now.labels }
+    requires sources { AreSources network.old sources.now }
+    requires unit { unit.now.node ≡ sources.now.unit }
+    requires nothing { unit.now.labels ≡ [] }
+    requires ready { IsReady (P.cell_of coder.now) network.old.rels (vars_of first.now.labels) right.now }
+    ensures { IfOk result (λ b. DeniedMade P.Cell.cmp P.Cell.int_of (P.cell_of coder.now) sources.now.consts right.now vars.now network.old network.new unit.now.node unit.now.labels first.now.node first.now.labels b.node b.labels) }
+{
+    if is_solved_alone(alloc, right, vars)? {
+        let alone = compile_at(alloc, right, unit, sources, coder, network)?;
+        return Ok(alone);
+    }
+    let behind = compile_at(alloc, right, first, sources, coder, network)?;
+    Ok(behind)
+}
+
+/// The rows of a query whose first part holds and whose second part doesn't: what one node has in the order of the variables, and
+/// another one hasn't.
+pub(crate) fn rows_without<P: Coder>(
+    alloc: Global,
+    left: &Formula,
+    right: &Formula,
+    vars: &TypedVars,
+    wanted: &Terms,
+    sources: &Sources,
+    coder: &P,
+    network: &mut Network<P::Cell>,
+) -> Result<usize, AllocError>
+    requires open { IsOpen network.old }
+    requires sources { AreSources network.old sources.now }
+    requires ready { IsReady (P.cell_of coder.now) network.old.rels [] (lacking left.now right.now) }
+    requires occurring { (x : OfVar) → binds vars.now x ≡ true → In x (occurrences (lacking left.now right.now)) }
+    requires bound { (x : OfVar) → In x (occurrences (lacking left.now right.now)) → binds vars.now x ≡ true }
+    requires wanted { wanted.now ≡ var_labels vars.now }
+    requires some { wanted.now ≡ [] → ⊥ }
+    ensures { IfOk result (λ node. Finished P.Cell.cmp P.Cell.int_of (P.cell_of coder.now) sources.now.consts (lacking left.now right.now) vars.now network.old network.new node wanted.now) }
+{
+    let unit = Context {
+        node: sources.unit,
+        labels: Items::new(alloc),
+    };
+    let first = compile_at(alloc, left, &unit, sources, coder, network)?;
+    let second = denied_rows(
+        alloc, right, vars, &unit, &first, sources, coder, network,
+    )?;
+    let columns = wanted.copy_in(alloc)?;
+    let less = difference(alloc, &first, &second, columns, network)?;
+    Ok(less.node)
 }

@@ -39,7 +39,7 @@ fn has_column_at(rels: &[Shape], rel: usize, of_type: ColType) -> bool
 }
 
 /// Whether the variable is one of these.
-fn is_among(vars: &[Var], x: &Var) -> bool
+pub(crate) fn is_among(vars: &[Var], x: &Var) -> bool
     ensures { result ≡ is_in x.now vars.now }
 {
     vars.iter().any(|y| x.same(y))

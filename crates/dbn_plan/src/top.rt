@@ -19,7 +19,7 @@ use super::columns::{same_terms, tests_of};
 use super::context::Context;
 use super::forms::compile_at;
 use super::labels::labels_of;
-use super::referring::{difference_rows, is_closed, lacking_parts};
+use super::referring::{denied_parts, difference_rows, is_closed, lacking_parts, rows_without};
 use super::room::with_room;
 use super::scans::{add_relations, scan_each};
 use super::sources::Sources;
@@ -73,6 +73,7 @@ fn plan<P: Coder>(
     requires ready { IsReady (P.cell_of coder.now) network.old.rels [] form.now }
     requires consts { consts ≡ constants form.now }
     requires occurring { (x : OfVar) → binds vars.now x ≡ true → In x (occurrences form.now) }
+    requires bound { (x : OfVar) → In x (occurrences form.now) → binds vars.now x ≡ true }
     ensures { IfOk result (λ node. Planned P.Cell.cmp P.Cell.int_of (P.cell_of coder.now) form.now vars.now network.old network.new node) }
 {
     let sources = first_sources(alloc, form, consts, network)?;
@@ -81,7 +82,7 @@ fn plan<P: Coder>(
     match whole {
         Some(scan) => Ok(scan),
         None => {
-            let node = in_order(alloc, form, vars, &wanted, &sources, coder, network)?;
+            let node = query_rows(alloc, form, vars, &wanted, &sources, coder, network)?;
             Ok(node)
         }
     }
@@ -161,6 +162,34 @@ fn is_whole<P: Coder>(
     }
     let tests = tests_of(alloc, terms.as_slice(), coder)?;
     Ok(tests.is_empty())
+}
+
+/// The formula with its columns in the order of the variables. Where its last part is denied, the columns are put in order before.
+fn query_rows<P: Coder>(
+    alloc: Global,
+    form: &Formula,
+    vars: &TypedVars,
+    wanted: &Terms,
+    sources: &Sources,
+    coder: &P,
+    network: &mut Network<P::Cell>,
+) -> Result<usize, AllocError>
+    requires open { IsOpen network.old }
+    requires sources { AreSources network.old sources.now }
+    requires ready { IsReady (P.cell_of coder.now) network.old.rels [] form.now }
+    requires occurring { (x : OfVar) → binds vars.now x ≡ true → In x (occurrences form.now) }
+    requires bound { (x : OfVar) → In x (occurrences form.now) → binds vars.now x ≡ true }
+    requires wanted { wanted.now ≡ var_labels vars.now }
+    ensures { IfOk result (λ node. Finished P.Cell.cmp P.Cell.int_of (P.cell_of coder.now) sources.now.consts form.now vars.now network.old network.new node wanted.now) }
+{
+    if let Some((left, right)) = denied_parts(form) {
+        if !wanted.is_empty() {
+            return rows_without(
+                alloc, left, right, vars, wanted, sources, coder, network,
+            );
+        }
+    }
+    in_order(alloc, form, vars, wanted, sources, coder, network)
 }
 
 /// The formula behind the unit, and its columns in the order of the variables.

@@ -1,6 +1,7 @@
 use Rattle.std.proofs.Common.{refl}
 use Rattle.dbn_plan.proofs.StepLaws.{open_after, placed_after, grown_then}
 use Rattle.dbn_plan.proofs.StepsMade.{diff_fits}
+use Rattle.dbn_plan.proofs.DeniedLaws.{difference_kept}
 use Rattle.dbn_plan.proofs.ReferringLaws.{difference_made}
 use Rattle.dbn_plan.proofs.referring.difference.Goals as goal
 
@@ -19,3 +20,6 @@ pub returns-clause-made : goal.returns-clause-made
 returns-clause-made g c =
     difference_made g.C.Ord.cmp g.C.Cell.int_of c.args.network.now c.shown.new.network c.shown-2.new.network c.add.new.self c.args.left.now.node c.args.left.now.labels c.args.right.now.node c.args.right.now.labels
     c.in_ok-from.from c.in_ok-other.other c.in_ok-node.node c.args.wanted c.in_ok-from.ensures c.in_ok-other.ensures c.requires.right c.in_ok-node.ensures.ok c.in_ok-node.ensures.number
+
+pub returns-clause-kept : goal.returns-clause-kept
+returns-clause-kept g c = difference_kept c.shown-2.new.network c.add.new.self c.in_ok-from.from c.in_ok-other.other c.in_ok-node.node c.in_ok-node.ensures.ok c.in_ok-node.ensures.number

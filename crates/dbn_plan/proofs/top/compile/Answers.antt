@@ -1,6 +1,6 @@
 use Rattle.std.proofs.Common.{◌∙◌, refl, subst, length}
 use Rattle.dbn_plan.specs.Columns.{HaveCells}
-use Rattle.dbn_plan.proofs.TopLaws.{query_ready, query_occurs, planned_answers, few_nodes}
+use Rattle.dbn_plan.proofs.TopLaws.{query_ready, query_occurs, query_bound, planned_answers, few_nodes}
 use Rattle.dbn_plan.proofs.top.compile.Goals as goal
 
 pub plan-requires-clause-ready : goal.plan-requires-clause-ready
@@ -10,6 +10,9 @@ plan-requires-clause-ready g c =
 
 pub plan-requires-clause-occurring : goal.plan-requires-clause-occurring
 plan-requires-clause-occurring g c = query_occurs c.args.network.now.rels c.args.vars.now c.args.f.now c.requires.accepted c.in_ok-form.form c.in_ok-form.ensures
+
+pub plan-requires-clause-bound : goal.plan-requires-clause-bound
+plan-requires-clause-bound g c = query_bound c.args.network.now.rels c.args.vars.now c.args.f.now c.requires.accepted c.in_ok-form.form c.in_ok-form.ensures
 
 pub returns-clause-answers : goal.returns-clause-answers
 returns-clause-answers g c =

@@ -15,14 +15,14 @@ relation_itself-requires-clause-ready g c = subst (λ rs. IsReady (g.P.Coder.cel
 pub relation_itself-requires-clause-wanted : goal.relation_itself-requires-clause-wanted
 relation_itself-requires-clause-wanted g c = c.in_ok-wanted.ensures ∙ ap var_labels c.as_slice.ensures
 
-pub in_order-requires-clause-open : goal.in_order-requires-clause-open
-in_order-requires-clause-open g c = open_after c.args.network.now c.first_sources.new.network c.in_ok-sources.ensures.made.grown c.requires.open
+pub query_rows-requires-clause-open : goal.query_rows-requires-clause-open
+query_rows-requires-clause-open g c = open_after c.args.network.now c.first_sources.new.network c.in_ok-sources.ensures.made.grown c.requires.open
 
-pub in_order-requires-clause-ready : goal.in_order-requires-clause-ready
-in_order-requires-clause-ready g c = subst (λ rs. IsReady (g.P.Coder.cell_of c.args.coder.now) rs [] c.args.form.now) (sym c.in_ok-sources.ensures.made.grown.rels) c.requires.ready
+pub query_rows-requires-clause-ready : goal.query_rows-requires-clause-ready
+query_rows-requires-clause-ready g c = subst (λ rs. IsReady (g.P.Coder.cell_of c.args.coder.now) rs [] c.args.form.now) (sym c.in_ok-sources.ensures.made.grown.rels) c.requires.ready
 
-pub in_order-requires-clause-wanted : goal.in_order-requires-clause-wanted
-in_order-requires-clause-wanted g c = c.in_ok-wanted.ensures ∙ ap var_labels c.as_slice.ensures
+pub query_rows-requires-clause-wanted : goal.query_rows-requires-clause-wanted
+query_rows-requires-clause-wanted g c = c.in_ok-wanted.ensures ∙ ap var_labels c.as_slice.ensures
 
 pub returns-in-Some : goal.returns-in-Some
 returns-in-Some g c =
@@ -32,5 +32,5 @@ returns-in-Some g c =
 
 pub returns : goal.returns
 returns g c =
-    planned_made (g.P.Coder.cell_of c.args.coder.now) c.args.form.now c.args.vars.now c.args.consts c.args.network.now c.first_sources.new.network c.in_order.new.network c.in_ok-sources.sources c.in_ok-wanted.wanted c.in_ok-node-in-None.node
+    planned_made (g.P.Coder.cell_of c.args.coder.now) c.args.form.now c.args.vars.now c.args.consts c.args.network.now c.first_sources.new.network c.query_rows.new.network c.in_ok-sources.sources c.in_ok-wanted.wanted c.in_ok-node-in-None.node
     c.requires.consts c.in_ok-sources.ensures.consts c.requires.occurring c.in_ok-sources.ensures.made (c.in_ok-wanted.ensures ∙ ap var_labels c.as_slice.ensures) c.in_ok-node-in-None.ensures
