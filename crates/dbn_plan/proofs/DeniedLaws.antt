@@ -118,7 +118,7 @@ module _ {C : Type 0} {R : C → C → Ordering} {int_of : C → Option ℤ} (ce
       (first : Made R int_of cell_of consts left old one i labels l l_labels) (less : Difference R int_of two five l l_labels r r_labels made wanted) where
     rooted_from : Grown one two → length two.nodes + 4 ≤ length one.nodes + rate old.rels * size right
         → ((w : World R int_of cell_of consts old.rels) (scope : TypedVars) → Fit consts old.rels (lacking left right) scope []
-          → Stands R int_of w one.nodes l l_labels scope (λ t. true && holds_over w.dom w.db left t) → Denied old.rels w (val R r two.nodes w.feeds) r_labels wanted)
+        → Stands R int_of w one.nodes l l_labels scope (λ t. true && holds_over w.dom w.db left t) → Denied old.rels w (val R r two.nodes w.feeds) r_labels wanted)
         → Rooted R int_of cell_of consts (lacking left right) old five made wanted
     rooted_from more few denied = record {
       grown = grown_then old two five (grown_then old one two first.grown more) less.grown;

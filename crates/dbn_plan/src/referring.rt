@@ -21,7 +21,7 @@ use super::steps::shown;
 use dbn_formula::{Formula, free};
 use dbn_network::Network;
 use dbn_nodes::Node;
-use dbn_value::{Cell, ColType, Coder, CopyIn, Terms, TypedVars, Var};
+use dbn_value::{Cell, Coder, ColType, CopyIn, Terms, TypedVars, Var};
 use sqlite_items::Items;
 use std::alloc::{AllocError, Global};
 
@@ -233,9 +233,7 @@ pub(crate) fn rows_without<P: Coder>(
         labels: Items::new(alloc),
     };
     let first = compile_at(alloc, left, &unit, sources, coder, network)?;
-    let second = denied_rows(
-        alloc, right, vars, &unit, &first, sources, coder, network,
-    )?;
+    let second = denied_rows(alloc, right, vars, &unit, &first, sources, coder, network)?;
     let columns = wanted.copy_in(alloc)?;
     let less = difference(alloc, &first, &second, columns, network)?;
     Ok(less.node)

@@ -184,9 +184,7 @@ fn query_rows<P: Coder>(
 {
     if let Some((left, right)) = denied_parts(form) {
         if !wanted.is_empty() {
-            return rows_without(
-                alloc, left, right, vars, wanted, sources, coder, network,
-            );
+            return rows_without(alloc, left, right, vars, wanted, sources, coder, network);
         }
     }
     in_order(alloc, form, vars, wanted, sources, coder, network)
