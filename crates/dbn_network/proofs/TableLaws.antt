@@ -1,7 +1,9 @@
 -- The rows of a node, from what the network holds.
-use Rattle.std.proofs.Common.{◌≡◌, ◌<◌, ◌≤◌, ◌+◌, ℕ, zero, suc, ◌⊎◌, inl, inr, ⊎_elim, Bool, true, false, List, [], ◌∷◌, ◌++◌, refl, ap, sym, ◌∙◌, subst, length, get_or, map, nat_lt, arith}
+use Rattle.std.proofs.Common.{◌≡◌, ◌<◌, ◌≤◌, ◌+◌, ℕ, zero, suc, ◌⊎◌, inl, inr, ⊎_elim, Bool, true, false, ◌&&◌, ◌↔◌, IsTrue, List, [], ◌∷◌, ◌++◌, refl, ap, sym, ◌∙◌, subst, length, get_or, map, nat_lt, arith}
 use Rattle.std.specs.declared.cmp.Ordering.{Ordering}
 use Rattle.std.specs.Cmp.{IsTotalOrder}
+use Rattle.std.specs.Ordering.{eq_by_cmp}
+use Rattle.std.proofs.lemmas.Bool.{true≢false}
 use Rattle.std.specs.Cmp.Lexicographic.{slice_cmp}
 use Rattle.std.specs.FinMap.{IsAntisymmetric}
 use Rattle.std.specs.List.Sorted.{IsStrictlySortedBy}
@@ -10,11 +12,12 @@ use Rattle.dbn_value.specs.declared.value.ColType.{ColType}
 use Rattle.dbn_value.proofs.AscendingLaws.{sorted_nil}
 use Rattle.dbn_nodes.specs.declared.node.Node.{Node}
 use Rattle.dbn_nodes.specs.declared.node.Node.TheVariants as node
-use Rattle.dbn_nodes.specs.Tables.{count_at, has, AreRowsOf}
+use Rattle.dbn_nodes.specs.Tables.{choose, count_at, has, AreRowsOf}
 use Rattle.dbn_nodes.specs.Values.{value_of}
 use Rattle.dbn_nodes.specs.Stands.{IsPlain, Good, Stands}
-use Rattle.dbn_nodes.specs.Answering.{AreLefts, AreRowsAt, IsLookedUp}
-use Rattle.dbn_nodes.proofs.AnswerLaws.{plain_rows}
+use Rattle.dbn_nodes.specs.Answering.{AreLefts, AreRowsAt, IsLookedUp, IsCounted}
+use Rattle.dbn_nodes.proofs.AnswerLaws.{plain_rows, both_then}
+use Rattle.dbn_nodes.proofs.ChangeLaws.{in_row}
 use Rattle.dbn_nodes.proofs.NodeLaws.{plain_has}
 use Rattle.dbn_network.specs.declared.held.Held.{Held}
 use Rattle.dbn_network.specs.declared.input.Input.{Input}
@@ -23,7 +26,7 @@ use Rattle.dbn_network.specs.Inputs.{left_in, right_in, needed_in}
 use Rattle.dbn_network.specs.Values.{rows_at, rows_from, value_in, values}
 use Rattle.dbn_network.specs.States.{width_at, width_from, feed_widths, widths, IsThere, FitsAt}
 use Rattle.dbn_network.specs.Passes.{IsWide, Proper, StandsAt}
-use Rattle.dbn_network.specs.Holding.{nodes_of, feeds_of, AreEarlier, IsDirect, IsNetwork}
+use Rattle.dbn_network.specs.Holding.{nodes_of, feeds_of, AreEarlier, IsDirect, IsTold, IsNetwork}
 use Rattle.dbn_network.proofs.PassLaws.{same_inside}
 use Rattle.dbn_network.proofs.RunLaws.{good_of}
 use Rattle.dbn_network.proofs.FeedLaws.{Table}
@@ -60,6 +63,38 @@ module _ {C : Type 0} where
   direct_looked (node.Project from cols) direct none = tt
   direct_looked (node.Union left right) direct none = tt
   direct_looked (node.Extend from with) direct none = direct
+
+module _ {C : Type 0} where
+  pub counted_told : (n : Node C) → IsCounted n → IsTold n
+  counted_told node.Unit counted = tt
+  counted_told (node.Scan feed) counted = tt
+  counted_told (node.Select from tests) counted = counted
+  counted_told (node.Join left right on) counted = counted
+  counted_told (node.Diff left right) counted = counted
+  counted_told (node.Project from cols) counted = counted
+  counted_told (node.Union left right) counted = counted
+  counted_told (node.Extend from with) counted = counted
+
+  pub told_by : (n : Node C) → IsTold n → (n ≡ node.Unit → ⊥) → ((feed : ℕ) → n ≡ node.Scan feed → ⊥) → IsCounted n
+  told_by node.Unit told unit scan = absurd (unit refl)
+  told_by (node.Scan feed) told unit scan = absurd (scan feed refl)
+  told_by (node.Select from tests) told unit scan = told
+  told_by (node.Join left right on) told unit scan = told
+  told_by (node.Diff left right) told unit scan = told
+  told_by (node.Project from cols) told unit scan = tt
+  told_by (node.Union left right) told unit scan = tt
+  told_by (node.Extend from with) told unit scan = told
+
+module _ {C : Type 0} {R : C → C → Ordering} (o : IsTotalOrder R) (exact : IsAntisymmetric R) where
+  plain_empty : (table : Table C) (s : List (List C)) → IsPlain R table s → ((k r : List C) → count_at (slice_cmp R) table k r ≡ 0) ↔ (s ≡ [])
+  plain_empty table s plain = (
+    λ none. no_rows_left s (λ row. sym (plain_has o exact table s row plain) ∙ ap (nat_lt 0) (none [] row)),
+    λ e k r. plain k r ∙ ap (λ rows. choose (has (slice_cmp R) rows r && eq_by_cmp (slice_cmp R) [] k) 1 0) e,
+  )
+    where
+      no_rows_left : (rows : List (List C)) → ((row : List C) → has (slice_cmp R) rows row ≡ false) → rows ≡ []
+      no_rows_left [] none = refl
+      no_rows_left (x ∷ rows) none = absurd (true≢false (sym (in_row o exact x (x ∷ rows) (inl refl)) ∙ none x))
 
 module _ {C : Type 0} {R : C → C → Ordering} (o : IsTotalOrder R) (exact : IsAntisymmetric R) (shapes : List (List ColType)) (states : List (Held C)) (tables : List (Table C)) (net : IsNetwork R shapes states tables) where
   -- the rows of an input ascend and have its width
@@ -124,3 +159,16 @@ module _ {C : Type 0} {R : C → C → Ordering} (o : IsTotalOrder R) (exact : I
       scan_has earlier table row at =
           plain_has o exact table (rows_at (feeds_of R tables) feed) row (subst (λ t. IsPlain R t (rows_at (feeds_of R tables) feed)) (sym (at ∙ same_inside tables feed table [] (scan_there earlier))) (net.fed feed))
           ∙ ap (λ rows. has (slice_cmp R) rows row) (sym scan_value)
+
+      -- the table of the feed tells whether a scan has no rows
+      pub scan_empty : AreEarlier (length tables) states → (table : Table C) (empty : Bool) → table ≡ get_or tables feed table → (IsTrue empty ↔ ((k r : List C) → count_at (slice_cmp R) table k r ≡ 0)) → IsTrue empty ↔ (rows_at (values R (feeds_of R tables) (nodes_of states)) i ≡ [])
+      scan_empty earlier table empty at told =
+          let plain : IsPlain R table (rows_at (feeds_of R tables) feed) = subst (λ t. IsPlain R t (rows_at (feeds_of R tables) feed)) (sym (at ∙ same_inside tables feed table [] (scan_there earlier))) (net.fed feed) in
+          subst (λ rows. IsTrue empty ↔ (rows ≡ [])) (sym scan_value) (both_then told (plain_empty o exact table (rows_at (feeds_of R tables) feed) plain))
+
+    -- a unit has a row
+    pub unit_some : s.state.node ≡ node.Unit → (rows_at (values R (feeds_of R tables) (nodes_of states)) i ≡ []) → ⊥
+    unit_some unit none = some_rows (sym (node_value ∙ ap (value_in R (feeds_of R tables) (values R (feeds_of R tables) (nodes_of states))) unit) ∙ none)
+      where
+        some_rows : ◌≡◌ {A = List (List C)} ([] ∷ []) [] → ⊥
+        some_rows e = absurd cc

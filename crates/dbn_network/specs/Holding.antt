@@ -11,7 +11,7 @@ use Rattle.dbn_nodes.specs.declared.node.Node.TheVariants as node
 use Rattle.std.specs.List.Sorted.{IsStrictlySortedBy}
 use Rattle.dbn_nodes.specs.declared.event.Event.{Event}
 use Rattle.dbn_nodes.specs.Changes.{Leads}
-use Rattle.dbn_nodes.specs.Answering.{IsLookedUp}
+use Rattle.dbn_nodes.specs.Answering.{IsLookedUp, IsCounted}
 use Rattle.dbn_nodes.specs.Tables.{count_at, shelf_at}
 use Rattle.dbn_nodes.specs.Stands.{IsPlain}
 use Rattle.dbn_network.specs.declared.held.Held.{Held}
@@ -34,6 +34,12 @@ AreEarlier {C} feeds states = (i : ℕ) (d : Held C) → i < length states → I
 abbrev pub IsDirect : {C : Type 0} → Node C → Type 0
 IsDirect (node.Scan feed) = Unit {0}
 IsDirect n = IsLookedUp n
+
+-- one look at a table, or none, tells whether the node has rows
+abbrev pub IsTold : {C : Type 0} → Node C → Type 0
+IsTold node.Unit = Unit {0}
+IsTold (node.Scan feed) = Unit {0}
+IsTold n = IsCounted n
 
 -- the same states, in which the one that is this input is marked
 pub record MarkedBy {C : Type 0} (old new : List (Held C)) (x : Input) : Type 0 where

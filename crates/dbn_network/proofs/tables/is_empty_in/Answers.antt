@@ -1,9 +1,18 @@
 use Rattle.std.proofs.Common.{◌≡◌, ◌↔◌, ◌∙◌, [], IsTrue, refl, sym, subst}
+use Rattle.std.proofs.lemmas.Bool.{true≢false}
 use Rattle.std.proofs.lemmas.Result.{err_from_is_err_and}
-use Rattle.dbn_nodes.specs.Answering.{IsCounted}
+use Rattle.dbn_network.specs.Holding.{IsTold}
 use Rattle.dbn_network.proofs.PassLaws.{same_inside}
-use Rattle.dbn_network.proofs.TableLaws.{node_answers}
+use Rattle.dbn_network.proofs.TableLaws.{node_answers, scan_empty, unit_some, told_by}
 use Rattle.dbn_network.proofs.tables.is_empty_in.Goals as goal
+
+pub returns-in-Unit-clause-value : goal.returns-in-Unit-clause-value
+returns-in-Unit-clause-value g c =
+    λ shapes net. (λ t. absurd (true≢false (sym t)), λ none. absurd (unit_some g.met.C.Ord.total g.met.C.Cell.exact shapes c.args.states.now c.args.tables.now net c.args.node c.index-states-node.result c.requires.range c.index-states-node.is c.in-Unit.is none))
+
+pub returns-in-Scan-clause-value : goal.returns-in-Scan-clause-value
+returns-in-Scan-clause-value g c =
+    λ shapes net. scan_empty g.met.C.Ord.total g.met.C.Cell.exact shapes c.args.states.now c.args.tables.now net c.args.node c.index-states-node.result c.requires.range c.index-states-node.is c.in-Scan.feed c.in-Scan.is c.requires.earlier c.index-tables-feed.result c.is_empty-empty.result c.index-tables-feed.is c.is_empty-empty.ensures
 
 pub returns-in-Some : goal.returns-in-Some
 returns-in-Some g c = record {
@@ -16,7 +25,8 @@ pub returns-in_err-rows-in-None : goal.returns-in_err-rows-in-None
 returns-in_err-rows-in-None g c = record {
   value = let p = err_from_is_err_and c.from_residual.result c.from_residual.ensures.1 in rw p.1 tt;
   sure = λ d counted.
-      let none = c.in-None.ensures.tells (subst (λ s. IsCounted s.state.node) (sym (c.index-states-node.is ∙ same_inside c.args.states.now c.args.node c.index-states-node.result d c.requires.range)) counted) in
+      let none = c.in-None.ensures.tells (told_by c.index-states-node.result.state.node
+      (subst (λ s. IsTold s.state.node) (sym (c.index-states-node.is ∙ same_inside c.args.states.now c.args.node c.index-states-node.result d c.requires.range)) counted) c.in_default.not-Unit c.in_default-node.not-Scan) in
       absurd cc;
 }
 
