@@ -45,7 +45,14 @@ fn pass<C: Cell, L: Ledger>(
     ensures made { OnOk result ((i : ℕ) → (slice_index_or made.new.items i [] ≡ []) ⊎ In i walk.now) }
 {
     for node in walk {
-        let events = step(alloc, &mut states[*node], feed, event, made.as_slice(), steps)?;
+        let events = step(
+            alloc,
+            &mut states[*node],
+            feed,
+            event,
+            made.as_slice(),
+            steps,
+        )?;
         put(made, *node, events);
     }
     Ok(())

@@ -29,13 +29,13 @@ invariant_of-self-2 g c =
     let number : c.len-number.result ≡ length c.self.inside.states.items = search rules in
     λ live. rw (c.in_ok-push.ensures.items, c.in_ok-push-2.ensures.items, c.new-2.ensures) (
       added_network g.met.C.Ord.total g.met.C.Cell.exact c.self.inside.live c.self.inside.rels (c.self.inside.rels ++ c.self.inside.places) c.self.inside.states.items c.self.inside.feeds.items c.args.self.now c.self.view_is (λ live. (c.self.invariant live).0) c.requires.live c.args.node c.requires.fits c.mark_read-2.new.states.items c.in_ok-held.held c.in_ok-held.ensures.node
-    (marked_both c.self.inside.states.items c.mark_read.new.states.items c.mark_read-2.new.states.items c.in_ok-held.held.state.node
-    (subst (MarkedBy c.self.inside.states.items c.mark_read.new.states.items) c.left_input-left.ensures c.mark_read.ensures) (subst (MarkedBy c.mark_read.new.states.items c.mark_read-2.new.states.items) c.right_input-right.ensures c.mark_read-2.ensures))
-    ((rw (c.as_slice.ensures.value, c.as_slice-2.ensures.value) at c.in_ok-held.ensures.stands) (c.self.inside.rels ++ c.self.inside.places) (network_is g.met.C.Ord.total g.met.C.Cell.exact c.self.inside.live c.self.inside.rels (c.self.inside.rels ++ c.self.inside.places) c.self.inside.states.items c.self.inside.feeds.items c.args.self.now c.self.view_is (λ live. (c.self.invariant live).0) c.requires.live) (fits_now g.met.C.Ord.total g.met.C.Cell.exact c.self.inside.live c.self.inside.rels (c.self.inside.rels ++ c.self.inside.places) c.self.inside.states.items c.self.inside.feeds.items c.args.self.now c.self.view_is (λ live. (c.self.invariant live).0) c.requires.live c.args.node c.requires.fits)),
+          (marked_both c.self.inside.states.items c.mark_read.new.states.items c.mark_read-2.new.states.items c.in_ok-held.held.state.node
+          (subst (MarkedBy c.self.inside.states.items c.mark_read.new.states.items) c.left_input-left.ensures c.mark_read.ensures) (subst (MarkedBy c.mark_read.new.states.items c.mark_read-2.new.states.items) c.right_input-right.ensures c.mark_read-2.ensures))
+          ((rw (c.as_slice.ensures.value, c.as_slice-2.ensures.value) at c.in_ok-held.ensures.stands) (c.self.inside.rels ++ c.self.inside.places) (network_is g.met.C.Ord.total g.met.C.Cell.exact c.self.inside.live c.self.inside.rels (c.self.inside.rels ++ c.self.inside.places) c.self.inside.states.items c.self.inside.feeds.items c.args.self.now c.self.view_is (λ live. (c.self.invariant live).0) c.requires.live) (fits_now g.met.C.Ord.total g.met.C.Cell.exact c.self.inside.live c.self.inside.rels (c.self.inside.rels ++ c.self.inside.places) c.self.inside.states.items c.self.inside.feeds.items c.args.self.now c.self.view_is (λ live. (c.self.invariant live).0) c.requires.live c.args.node c.requires.fits)),
       added_walks g.met.C.Ord.total g.met.C.Cell.exact c.self.inside.live c.self.inside.rels (c.self.inside.rels ++ c.self.inside.places) c.self.inside.states.items c.self.inside.feeds.items c.args.self.now c.self.view_is (λ live. (c.self.invariant live).0) c.requires.live c.args.node c.requires.fits c.mark_read-2.new.states.items c.in_ok-held.held c.in_ok-held.ensures.node
-    (marked_both c.self.inside.states.items c.mark_read.new.states.items c.mark_read-2.new.states.items c.in_ok-held.held.state.node
-    (subst (MarkedBy c.self.inside.states.items c.mark_read.new.states.items) c.left_input-left.ensures c.mark_read.ensures) (subst (MarkedBy c.mark_read.new.states.items c.mark_read-2.new.states.items) c.right_input-right.ensures c.mark_read-2.ensures))
-    ((rw (c.as_slice.ensures.value, c.as_slice-2.ensures.value) at c.in_ok-held.ensures.stands) (c.self.inside.rels ++ c.self.inside.places) (network_is g.met.C.Ord.total g.met.C.Cell.exact c.self.inside.live c.self.inside.rels (c.self.inside.rels ++ c.self.inside.places) c.self.inside.states.items c.self.inside.feeds.items c.args.self.now c.self.view_is (λ live. (c.self.invariant live).0) c.requires.live) (fits_now g.met.C.Ord.total g.met.C.Cell.exact c.self.inside.live c.self.inside.rels (c.self.inside.rels ++ c.self.inside.places) c.self.inside.states.items c.self.inside.feeds.items c.args.self.now c.self.view_is (λ live. (c.self.invariant live).0) c.requires.live c.args.node c.requires.fits))
+          (marked_both c.self.inside.states.items c.mark_read.new.states.items c.mark_read-2.new.states.items c.in_ok-held.held.state.node
+          (subst (MarkedBy c.self.inside.states.items c.mark_read.new.states.items) c.left_input-left.ensures c.mark_read.ensures) (subst (MarkedBy c.mark_read.new.states.items c.mark_read-2.new.states.items) c.right_input-right.ensures c.mark_read-2.ensures))
+          ((rw (c.as_slice.ensures.value, c.as_slice-2.ensures.value) at c.in_ok-held.ensures.stands) (c.self.inside.rels ++ c.self.inside.places) (network_is g.met.C.Ord.total g.met.C.Cell.exact c.self.inside.live c.self.inside.rels (c.self.inside.rels ++ c.self.inside.places) c.self.inside.states.items c.self.inside.feeds.items c.args.self.now c.self.view_is (λ live. (c.self.invariant live).0) c.requires.live) (fits_now g.met.C.Ord.total g.met.C.Cell.exact c.self.inside.live c.self.inside.rels (c.self.inside.rels ++ c.self.inside.places) c.self.inside.states.items c.self.inside.feeds.items c.args.self.now c.self.view_is (λ live. (c.self.invariant live).0) c.requires.live c.args.node c.requires.fits))
           c.self.inside.walks.items c.lengthen_all.new.walks.items c.self.inside.made.items c.left_input-left.result c.right_input-right.result c.len-number.result (λ live. (c.self.invariant live).1) c.left_input-left.ensures c.right_input-right.ensures number
           c.in_ok-lengthen_all.ensures.size c.in_ok-lengthen_all.ensures.each,
     )

@@ -22,8 +22,8 @@ invariant_of-self-2 g c =
     let kept = walks_kept g.met.C.Ord.total g.met.C.Cell.exact c.self.inside.live c.self.inside.rels (c.self.inside.rels ++ c.self.inside.places) c.self.inside.states.items c.self.inside.feeds.items c.args.self.now c.self.view_is (λ live. (c.self.invariant live).0) c.requires.live c.self.inside.walks.items c.self.inside.made.items (λ live. (c.self.invariant live).1) in
     λ live. (
       subst (IsNetwork g.C.Ord.cmp (c.self.inside.rels ++ c.self.inside.places) c.run.new.states.items) (sym c.in_ok-note_at.ensures.ok.is)
-      (applied_network g.met.C.Ord.total g.met.C.Cell.exact c.self.inside.live c.self.inside.rels (c.self.inside.rels ++ c.self.inside.places) c.self.inside.states.items c.self.inside.feeds.items c.args.self.now c.self.view_is (λ live. (c.self.invariant live).0) c.requires.live g.C.Cell.type_of c.args.feed c.args.event.now c.requires.range c.requires.shape c.requires.fits c.in_ok-note_at.ensures.ok.table c.run.new.states.items
-      c.in_ok-note_at.ensures.ok.plain c.run.ensures.nodes c.in_ok-run.ensures.ok),
+          (applied_network g.met.C.Ord.total g.met.C.Cell.exact c.self.inside.live c.self.inside.rels (c.self.inside.rels ++ c.self.inside.places) c.self.inside.states.items c.self.inside.feeds.items c.args.self.now c.self.view_is (λ live. (c.self.invariant live).0) c.requires.live g.C.Cell.type_of c.args.feed c.args.event.now c.requires.range c.requires.shape c.requires.fits c.in_ok-note_at.ensures.ok.table c.run.new.states.items
+          c.in_ok-note_at.ensures.ok.plain c.run.ensures.nodes c.in_ok-run.ensures.ok),
       walks_count (length c.self.inside.walks.items) _ c.run.new.states.items c.self.inside.walks.items c.run.new.made.items
           (kept.size ∙ sym (length-set c.self.inside.feeds.items c.args.feed c.in_ok-note_at.ensures.ok.table) ∙ sym (ap length c.in_ok-note_at.ensures.ok.is)) (rw c.as_slice.ensures.value at c.in_ok-run.ensures.walks),
     )
