@@ -142,7 +142,7 @@ fn tried_choice(alloc: Global, vars: &TypedVars, body: Tried) -> Result<Tried, A
     Ok(Tried { is_safe, left })
 }
 
-/// Whether each part is safe and binds what the others bind, for a part that is tried by itself.
+/// Whether each part is safe, and binds what all of them need.
 #[cycle(safe)]
 fn any_tried(alloc: Global, parts: &[Formula], bound: &VarList) -> Result<Tried, AllocError>
     ensures is_safe { IfOk result (λ tried. tried.is_safe ≡ list_all (λ f. safe f bound.now && all_in (flat_map occurrences parts.now) (bound.now ++ occurrences f)) parts.now) }
