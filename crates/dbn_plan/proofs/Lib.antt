@@ -18,4 +18,5 @@ pub mod SentenceLaws
 pub mod StepLaws
 pub mod StepsMade
 pub mod TestLaws
+pub mod TestedLaws
 pub mod TopLaws

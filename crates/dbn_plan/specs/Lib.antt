@@ -6,3 +6,4 @@ pub mod Filling
 pub mod Making
 pub mod Meaning
 pub mod Referring
+pub mod Tested

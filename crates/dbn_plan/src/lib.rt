@@ -17,3 +17,6 @@ mod top;
 
 pub use laws::sentences_are_queries;
 pub use top::compile;
+
+#[cfg(test)]
+mod tests;
