@@ -26,7 +26,7 @@ use Rattle.dbn_network.specs.Inputs.{left_in, right_in, needed_in}
 use Rattle.dbn_network.specs.Values.{rows_at, rows_from, value_in, values}
 use Rattle.dbn_network.specs.States.{width_at, width_from, feed_widths, widths, IsThere, FitsAt}
 use Rattle.dbn_network.specs.Passes.{IsWide, Proper, StandsAt}
-use Rattle.dbn_network.specs.Holding.{nodes_of, feeds_of, AreEarlier, IsDirect, IsTold, IsNetwork}
+use Rattle.dbn_network.specs.Holding.{nodes_of, feeds_of, AreEarlier, IsDirect, IsNetwork}
 use Rattle.dbn_network.proofs.PassLaws.{same_inside}
 use Rattle.dbn_network.proofs.RunLaws.{good_of}
 use Rattle.dbn_network.proofs.FeedLaws.{Table}
@@ -65,25 +65,15 @@ module _ {C : Type 0} where
   direct_looked (node.Extend from with) direct none = direct
 
 module _ {C : Type 0} where
-  pub counted_told : (n : Node C) → IsCounted n → IsTold n
-  counted_told node.Unit counted = tt
-  counted_told (node.Scan feed) counted = tt
-  counted_told (node.Select from tests) counted = counted
-  counted_told (node.Join left right on) counted = counted
-  counted_told (node.Diff left right) counted = counted
-  counted_told (node.Project from cols) counted = counted
-  counted_told (node.Union left right) counted = counted
-  counted_told (node.Extend from with) counted = counted
-
-  pub told_by : (n : Node C) → IsTold n → (n ≡ node.Unit → ⊥) → ((feed : ℕ) → n ≡ node.Scan feed → ⊥) → IsCounted n
-  told_by node.Unit told unit scan = absurd (unit refl)
-  told_by (node.Scan feed) told unit scan = absurd (scan feed refl)
-  told_by (node.Select from tests) told unit scan = told
-  told_by (node.Join left right on) told unit scan = told
-  told_by (node.Diff left right) told unit scan = told
-  told_by (node.Project from cols) told unit scan = tt
-  told_by (node.Union left right) told unit scan = tt
-  told_by (node.Extend from with) told unit scan = told
+  pub counted_direct : (n : Node C) → IsCounted n → IsDirect n
+  counted_direct node.Unit counted = tt
+  counted_direct (node.Scan feed) counted = tt
+  counted_direct (node.Select from tests) counted = counted
+  counted_direct (node.Join left right on) counted = counted
+  counted_direct (node.Diff left right) counted = tt
+  counted_direct (node.Project from cols) counted = tt
+  counted_direct (node.Union left right) counted = tt
+  counted_direct (node.Extend from with) counted = counted
 
 module _ {C : Type 0} {R : C → C → Ordering} (o : IsTotalOrder R) (exact : IsAntisymmetric R) where
   plain_empty : (table : Table C) (s : List (List C)) → IsPlain R table s → ((k r : List C) → count_at (slice_cmp R) table k r ≡ 0) ↔ (s ≡ [])
@@ -165,10 +155,3 @@ module _ {C : Type 0} {R : C → C → Ordering} (o : IsTotalOrder R) (exact : I
       scan_empty earlier table empty at told =
           let plain : IsPlain R table (rows_at (feeds_of R tables) feed) = subst (λ t. IsPlain R t (rows_at (feeds_of R tables) feed)) (sym (at ∙ same_inside tables feed table [] (scan_there earlier))) (net.fed feed) in
           subst (λ rows. IsTrue empty ↔ (rows ≡ [])) (sym scan_value) (both_then told (plain_empty o exact table (rows_at (feeds_of R tables) feed) plain))
-
-    -- a unit has a row
-    pub unit_some : s.state.node ≡ node.Unit → (rows_at (values R (feeds_of R tables) (nodes_of states)) i ≡ []) → ⊥
-    unit_some unit none = some_rows (sym (node_value ∙ ap (value_in R (feeds_of R tables) (values R (feeds_of R tables) (nodes_of states))) unit) ∙ none)
-      where
-        some_rows : ◌≡◌ {A = List (List C)} ([] ∷ []) [] → ⊥
-        some_rows e = absurd cc

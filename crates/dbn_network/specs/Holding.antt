@@ -11,7 +11,7 @@ use Rattle.dbn_nodes.specs.declared.node.Node.TheVariants as node
 use Rattle.std.specs.List.Sorted.{IsStrictlySortedBy}
 use Rattle.dbn_nodes.specs.declared.event.Event.{Event}
 use Rattle.dbn_nodes.specs.Changes.{Leads}
-use Rattle.dbn_nodes.specs.Answering.{IsLookedUp, IsCounted}
+use Rattle.dbn_nodes.specs.Answering.{IsLookedUp}
 use Rattle.dbn_nodes.specs.Tables.{count_at, shelf_at}
 use Rattle.dbn_nodes.specs.Stands.{IsPlain}
 use Rattle.dbn_network.specs.declared.held.Held.{Held}
@@ -30,16 +30,10 @@ nodes_of states = map (λ s. s.state.node) states
 abbrev pub AreEarlier : {C : Type 0} → ℕ → List (Held C) → Type 0
 AreEarlier {C} feeds states = (i : ℕ) (d : Held C) → i < length states → IsThere feeds i (left_in (slice_index_or states i d).state.node) × IsThere feeds i (right_in (slice_index_or states i d).state.node)
 
--- a look-up or two tell whether the node has a row
+-- what is kept of the node, or of its feed, tells by look-ups whether it has a row, and whether it has any
 abbrev pub IsDirect : {C : Type 0} → Node C → Type 0
 IsDirect (node.Scan feed) = Unit {0}
 IsDirect n = IsLookedUp n
-
--- one look at a table, or none, tells whether the node has rows
-abbrev pub IsTold : {C : Type 0} → Node C → Type 0
-IsTold node.Unit = Unit {0}
-IsTold (node.Scan feed) = Unit {0}
-IsTold n = IsCounted n
 
 -- the same states, in which the one that is this input is marked
 pub record MarkedBy {C : Type 0} (old new : List (Held C)) (x : Input) : Type 0 where

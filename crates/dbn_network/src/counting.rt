@@ -7,7 +7,7 @@ ghost use Rattle.dbn_network.specs.Inputs.{left_in, right_in};
 ghost use Rattle.dbn_network.specs.Values.{rows_at, values};
 ghost use Rattle.dbn_network.specs.States.{IsThere, FitsAt, feed_widths, widths};
 ghost use Rattle.dbn_network.specs.Passes.{StandsAt};
-ghost use Rattle.dbn_network.specs.Holding.{nodes_of, feeds_of, AreEarlier, IsDirect, IsTold, IsNetwork};
+ghost use Rattle.dbn_network.specs.Holding.{nodes_of, feeds_of, AreEarlier, IsDirect, IsNetwork};
 
 use super::adding::new_held;
 use super::held::Held;
@@ -72,7 +72,7 @@ pub(crate) fn has_none<C: Cell, L: Ledger>(
     requires range { node < length states.now }
     requires earlier { AreEarlier (length tables.now) states.now }
     ensures value { IfOk result (λ empty. (shapes : List (List Column)) → IsNetwork C.cmp shapes states.now tables.now → IsTrue empty ↔ (rows_at (values C.cmp (feeds_of C.cmp tables.now) (nodes_of states.now)) node ≡ [])) }
-    ensures sure { (d : HeldOf C) → IsTold (slice_index_or states.now node d).state.node → IsOk result }
+    ensures sure { (d : HeldOf C) → IsDirect (slice_index_or states.now node d).state.node → IsOk result }
 {
     let mut steps: Steps<L> = Steps::new(blank);
     is_empty_in(alloc, states, tables, node, &mut steps)

@@ -8,7 +8,7 @@ ghost use Rattle.dbn_nodes.specs.Tables.{has};
 ghost use Rattle.dbn_nodes.specs.Answering.{IsCounted};
 ghost use Rattle.dbn_network.specs.Values.{val};
 ghost use Rattle.dbn_network.specs.States.{Fits, with_node, with_feeds, change_at};
-ghost use Rattle.dbn_network.specs.Holding.{IsDirect, IsTold};
+ghost use Rattle.dbn_network.specs.Holding.{IsDirect};
 ghost use Rattle.dbn_network.specs.Loads.{bound};
 
 use super::adding::mark_read;
@@ -185,14 +185,14 @@ impl<C: Cell> Network<C> {
         )
     }
 
-    /// Whether the node with this number has no rows. An error is want of memory; a unit, a scan, a projection and
-    /// a union take none.
+    /// Whether the node with this number has no rows. An error is want of memory; a unit, a scan, a difference, a projection and a
+    /// union take none. Of a difference it looks at the rows of the left input, up to the first that the right one doesn't have.
     pub fn is_empty(&self, alloc: Global, node: usize) -> Result<bool, AllocError>
         requires live { IsTrue self.now.live }
         requires range { node < length self.now.nodes }
         ensures value { IfOk result (λ empty. IsTrue empty ↔ (val C.cmp node self.now.nodes self.now.feeds ≡ [])) }
         ensures sure { (d : NodeOf C) → IsCounted (slice_index_or self.now.nodes node d) → IsOk result }
-        ensures told { (d : NodeOf C) → IsTold (slice_index_or self.now.nodes node d) → IsOk result }
+        ensures told { (d : NodeOf C) → IsDirect (slice_index_or self.now.nodes node d) → IsOk result }
     {
         has_none::<C, Brand>(
             alloc,

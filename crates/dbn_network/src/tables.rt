@@ -4,7 +4,7 @@ ghost use Rattle.dbn_value.specs.declared.value.ColType.{ColType as Column};
 ghost use Rattle.dbn_nodes.specs.Tables.{has, AreRowsOf};
 ghost use Rattle.dbn_network.specs.declared.held.Held.{Held as HeldOf};
 ghost use Rattle.dbn_network.specs.Values.{rows_at, values};
-ghost use Rattle.dbn_network.specs.Holding.{nodes_of, feeds_of, AreEarlier, IsDirect, IsTold, IsNetwork};
+ghost use Rattle.dbn_network.specs.Holding.{nodes_of, feeds_of, AreEarlier, IsDirect, IsNetwork};
 
 use super::held::Held;
 use super::input::{Input, needed_input};
@@ -99,7 +99,7 @@ pub(crate) fn has_in<C: Cell, L: Ledger>(
     }
 }
 
-/// Whether a node has no rows: by one look at a table at most, of a selection, a join, a difference and an extended node by its rows.
+/// Whether a node has no rows: by what is kept, of a selection, a join and an extended node by its rows.
 pub(crate) fn is_empty_in<C: Cell, L: Ledger>(
     alloc: Global,
     states: &[Held<C>],
@@ -110,17 +110,14 @@ pub(crate) fn is_empty_in<C: Cell, L: Ledger>(
     requires range { node < length states.now }
     requires earlier { AreEarlier (length tables.now) states.now }
     ensures value { IfOk result (λ empty. (shapes : List (List Column)) → IsNetwork C.cmp shapes states.now tables.now → IsTrue empty ↔ (rows_at (values C.cmp (feeds_of C.cmp tables.now) (nodes_of states.now)) node ≡ [])) }
-    ensures sure { (d : HeldOf C) → IsTold (slice_index_or states.now node d).state.node → IsOk result }
+    ensures sure { (d : HeldOf C) → IsDirect (slice_index_or states.now node d).state.node → IsOk result }
 {
     let held = &states[node];
-    if let Node::Unit = &held.state.node {
-        return Ok(false);
-    }
     if let Node::Scan { feed } = &held.state.node {
         let empty = tables[*feed].is_empty();
         return Ok(empty);
     }
-    match held.state.is_empty() {
+    match held.state.is_empty(alloc) {
         Some(empty) => {
             return Ok(empty);
         }

@@ -1,7 +1,7 @@
 -- The rows of a node follow from what it keeps.
 use Rattle.std.proofs.Common.{◌≡◌, ◌<◌, ◌+◌, ℕ, zero, suc, ◌⊎◌, inl, inr, ⊎_elim, Bool, true, false, cond, not, ◌&&◌, ◌||◌, ◌↔◌, List, [], ◌∷◌, ◌++◌, map, refl, ap, sym, ◌∙◌, subst, length, take, get_or, nat_lt, nat_eq, arith}
 use Rattle.std.proofs.lemmas.Bool.Decides.{nat_tests}
-use Rattle.std.proofs.lemmas.Bool.{true≢false, and_parts, and_from}
+use Rattle.std.proofs.lemmas.Bool.{true≢false, and_parts, and_from, false_from_ne_true}
 use Rattle.std.specs.declared.cmp.Ordering.{Ordering}
 use Rattle.std.specs.Ordering.{eq_by_cmp}
 use Rattle.std.specs.Cmp.{IsTotalOrder, both_ways}
@@ -27,6 +27,7 @@ use Rattle.dbn_nodes.specs.Stands.{firsts, seconds, IsIndex, IsPlain, IsSupport,
 use Rattle.dbn_nodes.specs.Answering.{JoinsWith, all_pairs}
 use Rattle.dbn_nodes.proofs.ChangeLaws.{rows_exact, row_in_rows, in_row, itself}
 use Rattle.dbn_nodes.proofs.NodeLaws.{plain_has, left_others}
+use Rattle.dbn_nodes.proofs.ShelfLaws.{some_of, of_some}
 
 module _ {A : Type 0} where
   filter_some : (t : A → Bool) (xs : List A) → nat_lt 0 (length (filter t xs)) ≡ list_any t xs
@@ -183,6 +184,23 @@ module _ {C : Type 0} {R : C → C → Ordering} (o : IsTotalOrder R) (exact : I
   union_empty table s t stands =
       support_empty table (λ p. choose (has (slice_cmp R) s p) 1 0 + choose (has (slice_cmp R) t p) 1 0) (either R s t) stands
       (λ row. either_of (has (slice_cmp R) s row) (has (slice_cmp R) t row) ∙ sym (any_append (eq_by_cmp (slice_cmp R) row) s t) ∙ sym (any_ascending (lists_total o) (rows_exact o exact) row (s ++ t)))
+
+  -- of a difference: each row of the left input is one of the right input
+  pub diff_empty : (l r : List (List C × List (List C × ℕ))) (s t : List (List C)) → IsPlain R l s → IsPlain R r t
+      → ((row : List C) → 0 < count_at (slice_cmp R) l [] row → 0 < count_at (slice_cmp R) r [] row) ↔ (without R s t ≡ [])
+  diff_empty l r s t ls rt = (
+    λ within. none_has (without R s t) (λ row. sym (diff_has l r s t row ls rt) ∙ denied (count_at (slice_cmp R) l [] row) (count_at (slice_cmp R) r [] row) (within row)),
+    λ empty row. granted (count_at (slice_cmp R) l [] row) (count_at (slice_cmp R) r [] row) (diff_has l r s t row ls rt ∙ ap (λ rows. has (slice_cmp R) rows row) empty),
+  )
+    where
+      denied : (m n : ℕ) → (0 < m → 0 < n) → (nat_lt 0 m && not (nat_lt 0 n)) ≡ false
+      denied m n within =
+          false_from_ne_true (nat_lt 0 m && not (nat_lt 0 n))
+          (λ e. let parts = and_parts (nat_lt 0 m) (not (nat_lt 0 n)) e in true≢false (sym parts.1 ∙ ap not (of_some n (within (some_of m parts.0)))))
+
+      granted : (m n : ℕ) → (nat_lt 0 m && not (nat_lt 0 n)) ≡ false → 0 < m → 0 < n
+      granted m zero e some = absurd (true≢false (sym (and_from (nat_lt 0 m) (not (nat_lt 0 0)) (of_some m some) refl) ∙ e))
+      granted m (suc n) e some = omega arith
 
   -- ---- all kinds
 

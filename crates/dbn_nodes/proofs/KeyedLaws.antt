@@ -1,6 +1,7 @@
 -- What a change of one shelf does to the counts of a table.
-use Rattle.std.proofs.Common.{◌≡◌, ◌<◌, ℕ, zero, Bool, true, false, cond, ◌&&◌, List, [], ◌∷◌, refl, sym, ap, ◌∙◌, subst, Some, None, Option, nat_lt, Result, Ok, Err, length, arith}
+use Rattle.std.proofs.Common.{◌≡◌, ◌<◌, ◌↔◌, IsTrue, ℕ, zero, Bool, true, false, cond, ◌&&◌, List, [], ◌∷◌, refl, sym, ap, ◌∙◌, subst, Some, None, Option, nat_lt, Result, Ok, Err, length, arith}
 use Rattle.std.specs.Prelude.{IsSome, OnErr}
+use Rattle.std.proofs.lemmas.Bool.{true≢false}
 use Rattle.std.specs.declared.cmp.Ordering.{Ordering}
 use Rattle.std.specs.Ordering.{eq_by_cmp, is_eq}
 use Rattle.std.specs.Option.{unwrap_or, IfSome}
@@ -136,6 +137,37 @@ module _ {K : Type 0} {R : K → K → Ordering} (o : IsTotalOrder R) (exact : I
     where
       below_none : (n : ℕ) → 0 < n → n ≡ 0 → ⊥
       below_none n some e = omega arith
+
+  -- ---- whether each row under a key is under it in another table
+
+  none_below : (n : ℕ) → 0 < n → n ≡ 0 → ⊥
+  none_below n some e = omega arith
+
+  no_count : (table : List (K × List (K × ℕ))) (key r : K) → lookup (is_at (R key)) table ≡ None → count_at R table key r ≡ 0
+  no_count table key r was = ap (λ (found : Option (List (K × ℕ))). shelf_count R (unwrap_or found []) r) was
+
+  pub found_at : (table same : List (K × List (K × ℕ))) (key : K) (found : Option (List (K × ℕ))) → table ≡ same → found ≡ lookup (is_at (R key)) table → lookup (is_at (R key)) same ≡ found
+  found_at table same key found is was = sym (was ∙ ap (lookup (is_at (R key))) is)
+
+  pub within_key : (table other : List (K × List (K × ℕ))) (key at : K) (b : Bool) → key ≡ at
+      → (IsTrue b ↔ ((r : K) → 0 < count_at R table key r → 0 < count_at R other key r)) → IsTrue b ↔ ((r : K) → 0 < count_at R table at r → 0 < count_at R other at r)
+  within_key table other key at b is both = subst (λ k. IsTrue b ↔ ((r : K) → 0 < count_at R table k r → 0 < count_at R other k r)) is both
+
+  pub within_found : (table other : List (K × List (K × ℕ))) (key : K) (shelf others : List (K × ℕ)) (b : Bool) → lookup (is_at (R key)) table ≡ Some shelf → lookup (is_at (R key)) other ≡ Some others
+      → (IsTrue b ↔ ((r : K) → 0 < shelf_count R shelf r → 0 < shelf_count R others r)) → IsTrue b ↔ ((r : K) → 0 < count_at R table key r → 0 < count_at R other key r)
+  within_found table other key shelf others b was is both =
+      subst (λ s. IsTrue b ↔ ((r : K) → 0 < shelf_count R s r → 0 < count_at R other key r)) (shelf_is table key shelf was)
+      (subst (λ s. IsTrue b ↔ ((r : K) → 0 < shelf_count R shelf r → 0 < shelf_count R s r)) (shelf_is other key others is) both)
+
+  -- a key that is there has a row, which the other table doesn't have
+  pub within_left : (table other : List (K × List (K × ℕ))) (key : K) (shelf : List (K × ℕ)) → IsTable R table → lookup (is_at (R key)) table ≡ Some shelf → lookup (is_at (R key)) other ≡ None
+      → IsTrue false ↔ ((r : K) → 0 < count_at R table key r → 0 < count_at R other key r)
+  within_left table other key shelf held was is = (
+    λ t. absurd (true≢false (sym t)),
+    λ within.
+        let filled = subst (λ found. IfSome found (IsFilled R)) was (held key) in
+        absurd (none_below (count_at R other key filled.0) (within filled.0 (subst (λ s. 0 < shelf_count R s filled.0) (shelf_is table key shelf was) filled.1)) (no_count other key filled.0 is)),
+  )
 
   -- ---- the rows of a key
 

@@ -1,5 +1,5 @@
 -- A shelf with one row, and what a change does to the counts.
-use Rattle.std.proofs.Common.{◌≡◌, ◌<◌, ℕ, zero, suc, Bool, true, false, cond, ◌||◌, nat_lt, is_some, List, [], ◌∷◌, refl, sym, ap, ◌∙◌, subst, Some, None, Option, length, arith}
+use Rattle.std.proofs.Common.{◌≡◌, ◌<◌, ℕ, zero, suc, Bool, true, false, cond, ◌&&◌, ◌||◌, ◌↔◌, IsTrue, nat_lt, is_some, List, [], ◌∷◌, refl, sym, ap, ◌∙◌, subst, Some, None, Option, length, arith}
 use Rattle.std.specs.declared.cmp.Ordering.{Ordering}
 use Rattle.std.specs.Ordering.{eq_by_cmp, is_eq}
 use Rattle.std.specs.Option.{unwrap_or, IfSome}
@@ -7,8 +7,11 @@ use Rattle.std.specs.Cmp.{IsTotalOrder, both_ways, Equal-is, tied_itself}
 use Rattle.std.specs.FinMap.{IsAntisymmetric}
 use Rattle.std.specs.Map.{lookup, keys_of}
 use Rattle.std.specs.BTreeMap.{is_at, insert_entry}
+use Rattle.std.specs.List.{list_all}
 use Rattle.std.specs.List.Sorted.{IsStrictlySortedBy}
-use Rattle.dbn_value.proofs.AscendingLaws.{sorted_one}
+use Rattle.dbn_value.specs.Members.{In}
+use Rattle.dbn_value.proofs.MemberLaws.{all_at, all_from}
+use Rattle.dbn_value.proofs.AscendingLaws.{sorted_one, any_from_in, in_from_any}
 use Rattle.dbn_value.proofs.EntryLaws.{lookup_insert_entry}
 use Rattle.std.proofs.lemmas.Bool.Decides.{nat_tests}
 use Rattle.dbn_nodes.specs.Tables.{shelf_count, IsShelf, IsFilled, has}
@@ -16,6 +19,12 @@ use Rattle.dbn_nodes.specs.Tables.{shelf_count, IsShelf, IsFilled, has}
 pub nil_of : {A : Type 0} (xs : List A) → length xs ≡ 0 → xs ≡ []
 nil_of [] e = refl
 nil_of (x ∷ xs) e = absurd (omega arith)
+
+pub some_of : (n : ℕ) → nat_lt 0 n ≡ true → 0 < n
+some_of n e = grind (arith, nat_tests)
+
+pub of_some : (n : ℕ) → 0 < n → nat_lt 0 n ≡ true
+of_some n some = grind (arith, nat_tests)
 
 module _ {K : Type 0} {R : K → K → Ordering} (o : IsTotalOrder R) (exact : IsAntisymmetric R) where
   pub one_count : (row own : K) (many : ℕ) (b : Bool) → is_eq (R row own) ≡ b → cond b many 0 ≡ shelf_count R ((own, many) ∷ []) row
@@ -127,3 +136,24 @@ module _ {K : Type 0} {R : K → K → Ordering} (o : IsTotalOrder R) (exact : I
       counted (Some zero) h = absurd (omega arith)
       counted (Some (suc n)) h = grind (arith, nat_tests)
       counted None h = refl
+
+  -- ---- whether each row is on another shelf
+
+  -- the rows are all on a shelf exactly where it has a count of each row that has one
+  pub within_all : (es fs : List (K × ℕ)) → IsShelf R es → IsTrue (list_all (λ row. nat_lt 0 (shelf_count R fs row)) (keys_of es)) ↔ ((q : K) → 0 < shelf_count R es q → 0 < shelf_count R fs q)
+  within_all es fs shelf = (
+    λ e q some. some_of (shelf_count R fs q) (all_at (λ row. nat_lt 0 (shelf_count R fs row)) q (keys_of es) e (in_from_any o exact q (keys_of es) (keys_have es shelf q ∙ of_some (shelf_count R es q) some))),
+    λ within. all_from (λ row. nat_lt 0 (shelf_count R fs row)) (keys_of es) (λ x at. of_some (shelf_count R fs x) (within x (some_of (shelf_count R es x) (sym (keys_have es shelf x) ∙ any_from_in o x (keys_of es) at)))),
+  )
+
+  -- .. the rows of a map, and the one row
+  pub many_within : (es rows fs : List (K × ℕ)) (b : Bool) → es ≡ rows → IsShelf R es → b ≡ list_all (λ row. nat_lt 0 (shelf_count R fs row)) (keys_of rows) → IsTrue b ↔ ((q : K) → 0 < shelf_count R es q → 0 < shelf_count R fs q)
+  many_within es rows fs b is shelf told =
+      subst (λ x. IsTrue x ↔ ((q : K) → 0 < shelf_count R es q → 0 < shelf_count R fs q)) (ap (λ xs. list_all (λ row. nat_lt 0 (shelf_count R fs row)) (keys_of xs)) is ∙ sym told) (within_all es fs shelf)
+
+  pub one_within : (es : List (K × ℕ)) (own : K) (held : ℕ) (fs : List (K × ℕ)) (n : ℕ) → es ≡ (own, held) ∷ [] → IsShelf R es → n ≡ shelf_count R fs own → IsTrue (nat_lt 0 n) ↔ ((q : K) → 0 < shelf_count R es q → 0 < shelf_count R fs q)
+  one_within es own held fs n is shelf told = many_within es ((own, held) ∷ []) fs (nat_lt 0 n) is shelf (ap (nat_lt 0) told ∙ sym (and_last (nat_lt 0 (shelf_count R fs own))))
+    where
+      and_last : (b : Bool) → (b && true) ≡ b
+      and_last true = refl
+      and_last false = refl

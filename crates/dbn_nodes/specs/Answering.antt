@@ -25,7 +25,7 @@ module _ {C : Type 0} where
   AreLefts (node.Union left right) lefts s = Unit {0}
   AreLefts (node.Extend from with) lefts s = lefts ≡ s
 
-  -- one look-up or two tell whether the node has a row
+  -- what the node keeps tells by look-ups whether it has a row, and whether it has any
   abbrev pub IsLookedUp : Node C → Type 0
   IsLookedUp node.Unit = Unit {0}
   IsLookedUp (node.Scan feed) = ⊥

@@ -1,4 +1,4 @@
-ghost use Rattle.std.specs.Prelude.{◌≡◌, ◌+◌, ◌-◌, ◌==◌, ◌&&◌, List, [], if◌then◌else◌, nat_lt, IfOk, OnOk};
+ghost use Rattle.std.specs.Prelude.{◌≡◌, ◌+◌, ◌-◌, ◌<◌, ◌==◌, ◌&&◌, ◌↔◌, List, [], if◌then◌else◌, nat_lt, IfOk, OnOk, IsTrue};
 ghost use Rattle.std.specs.Ordering.{eq_by_cmp};
 ghost use Rattle.std.specs.Cmp.Lexicographic.{slice_cmp};
 ghost use Rattle.dbn_nodes.specs.Changes.{row_in, comes};
@@ -23,6 +23,14 @@ pub fn holds<C: Cell, L: Ledger>(
 {
     let key = Row::from_vec(Vec::new(alloc));
     table.count(&key, row, steps) > 0
+}
+
+/// Whether each row that is under the key without cells is under it in the other table too.
+pub(crate) fn holds_all<C: Cell>(alloc: Global, table: &Keyed<C>, rows: &Keyed<C>) -> bool
+    ensures { IsTrue result ↔ ((r : List C) → 0 < count_at (slice_cmp C.cmp) rows.now [] r → 0 < count_at (slice_cmp C.cmp) table.now [] r) }
+{
+    let key = Row::from_vec(Vec::new(alloc));
+    rows.is_within(table, &key)
 }
 
 /// Puts the row under the key where it comes, and takes it out where it goes, in one step.

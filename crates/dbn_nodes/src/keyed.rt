@@ -67,6 +67,20 @@ impl<C: Cell> Keyed<C> {
         self.shelves.is_empty()
     }
 
+    /// Whether each row under the key is under it in the other table too: one look-up for each, up to the first that is not there. It
+    /// takes no step.
+    pub(crate) fn is_within(&self, other: &Keyed<C>, key: &Row<C>) -> bool
+        ensures { IsTrue result ↔ ((r : List C) → 0 < count_at (slice_cmp C.cmp) self.now key.now r → 0 < count_at (slice_cmp C.cmp) other.now key.now r) }
+    {
+        match self.shelves.get(key) {
+            Some(shelf) => match other.shelves.get(key) {
+                Some(others) => shelf.is_within(others),
+                None => false,
+            },
+            None => true,
+        }
+    }
+
     /// Gives the row under the key this count; all other counts stay. It takes one step. An error is want of memory, and then
     /// nothing changed.
     pub fn set<L: Ledger>(

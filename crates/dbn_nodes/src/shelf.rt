@@ -1,4 +1,5 @@
-ghost use Rattle.std.specs.Prelude.{◌≡◌, ◌+◌, ◌<◌, ◌++◌, List, [], ◌∷◌, if◌then◌else◌, true, false, map, length, IfOk, OnOk, OnErr};
+ghost use Rattle.std.specs.Prelude.{◌≡◌, ◌+◌, ◌<◌, ◌++◌, ◌↔◌, List, [], ◌∷◌, if◌then◌else◌, true, false, map, length, nat_lt, IfOk, OnOk, OnErr, IsTrue};
+ghost use Rattle.std.specs.List.{list_all};
 ghost use Rattle.std.specs.Cmp.Lexicographic.{slice_cmp};
 ghost use Rattle.std.specs.BTreeMap.{is_at};
 ghost use Rattle.std.specs.Map.{keys_of};
@@ -111,6 +112,16 @@ impl<C: Cell> Shelf<C> {
         }
     }
 
+    /// Whether each row is on the other shelf too: one look-up for each, up to the first that is not there.
+    pub(crate) fn is_within(&self, other: &Shelf<C>) -> bool
+        ensures { IsTrue result ↔ ((q : List C) → 0 < shelf_count (slice_cmp C.cmp) self.now q → 0 < shelf_count (slice_cmp C.cmp) other.now q) }
+    {
+        match &self.inner {
+            Inner::One(own, _) => other.count(own) > 0,
+            Inner::Many(rows) => are_on(rows, other),
+        }
+    }
+
     /// The rows, ascending, one step for each. An error is want of memory.
     pub(crate) fn rows<L: Ledger>(
         &self,
@@ -160,6 +171,13 @@ impl<C: Cell> Shelf<C> {
             }
         }
     }
+}
+
+/// Whether each of the rows is on the shelf.
+fn are_on<C: Cell>(rows: &BTreeMap<Row<C>, u64>, shelf: &Shelf<C>) -> bool
+    ensures { result ≡ list_all (λ row. nat_lt 0 (shelf_count (slice_cmp C.cmp) shelf.now row)) (keys_of rows.now.entries) }
+{
+    rows.keys().all(|row| shelf.count(row) > 0)
 }
 
 /// How a row is joined to another one, and whether the joined row comes.

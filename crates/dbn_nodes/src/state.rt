@@ -1,7 +1,7 @@
 ghost use Rattle.std.specs.Prelude.{◌≡◌, ◌+◌, ◌*◌, ◌≤◌, ◌↔◌, ◌&&◌, List, [], not, length, IfOk, OnOk, IsSome, IsTrue};
 ghost use Rattle.std.specs.Option.{IfSome};
 ghost use Rattle.std.specs.Cmp.Lexicographic.{slice_cmp};
-ghost use Rattle.dbn_nodes.specs.Answering.{AreRowsAt, IsLookedUp, IsCounted};
+ghost use Rattle.dbn_nodes.specs.Answering.{AreRowsAt, IsLookedUp};
 ghost use Rattle.dbn_nodes.specs.Tables.{has};
 ghost use Rattle.dbn_nodes.specs.Values.{value_of};
 ghost use Rattle.dbn_nodes.specs.Stands.{Stands, FollowsLeft, FollowsRight, LeadsLeft, LeadsRight};
@@ -13,7 +13,7 @@ use super::changes::{
     diff_left, diff_right, extend_left, join_left, join_right, project_left, scan_left,
     select_left, union,
 };
-use super::counts::holds;
+use super::counts::{holds, holds_all};
 use super::event::{Event, Events};
 use super::following::{
     follow_diff_left, follow_diff_right, follow_join_left, follow_join_right, follow_project,
@@ -310,12 +310,19 @@ impl<C: Cell> NodeState<C> {
         }
     }
 
-    /// Whether the node has no rows, where one look at its table tells it: of a projection and a union.
-    pub fn is_empty(&self) -> Option<bool>
-        ensures tells { IsCounted self.now.node → IsSome result }
+    /// Whether the node has no rows, where what it keeps tells it: of a unit, a projection and a union at once, of a difference by a
+    /// look-up for each row of its left input, up to the first that the right one doesn't have. It takes no memory.
+    pub fn is_empty(&self, alloc: Global) -> Option<bool>
+        ensures tells { IsLookedUp self.now.node → IsSome result }
         ensures value { IfSome result (λ empty. (s t : List (List C)) → Stands C.cmp self.now.node self.now.kept s t → IsTrue empty ↔ (value_of C.cmp self.now.node s t ≡ [])) }
     {
         match &self.node {
+            Node::Unit => {
+                return Some(false);
+            }
+            Node::Diff { left: _, right: _ } => {
+                return Some(holds_all(alloc, &self.kept.rights, &self.kept.lefts));
+            }
             Node::Project { from: _, cols: _ } => {
                 return Some(self.kept.supports.is_empty());
             }

@@ -1,8 +1,8 @@
 use Rattle.std.proofs.Common.{◌≡◌, ◌<◌, ◌∙◌, ◌++◌, sym, ap, subst, length, get_or, arith}
 use Rattle.std.proofs.lemmas.Result.{IfOk-weaker}
 use Rattle.dbn_nodes.specs.Answering.{IsCounted}
-use Rattle.dbn_network.specs.Holding.{IsTold}
-use Rattle.dbn_network.proofs.TableLaws.{counted_told}
+use Rattle.dbn_network.specs.Holding.{IsDirect}
+use Rattle.dbn_network.proofs.TableLaws.{counted_direct}
 use Rattle.dbn_network.proofs.NetworkLaws.{network_is, are_earlier, many_nodes, val_is, held_at}
 use Rattle.dbn_network.proofs.network.Network.is_empty.Goals as goal
 
@@ -24,8 +24,8 @@ returns-clause-value g c =
 
 pub returns-clause-sure : goal.returns-clause-sure
 returns-clause-sure g c =
-    λ d direct. let at = held_at g.met.C.Ord.total g.met.C.Cell.exact c.self.inside.live c.self.inside.rels (c.self.inside.rels ++ c.self.inside.places) c.self.inside.states.items c.self.inside.feeds.items c.args.self.now c.self.view_is (λ live. (c.self.invariant live).0) c.requires.live IsCounted c.args.node d c.requires.range direct in (rw c.as_slice.ensures.value at c.has_none.ensures.sure) at.0 (counted_told (get_or c.self.inside.states.items c.args.node at.0).state.node at.1)
+    λ d direct. let at = held_at g.met.C.Ord.total g.met.C.Cell.exact c.self.inside.live c.self.inside.rels (c.self.inside.rels ++ c.self.inside.places) c.self.inside.states.items c.self.inside.feeds.items c.args.self.now c.self.view_is (λ live. (c.self.invariant live).0) c.requires.live IsCounted c.args.node d c.requires.range direct in (rw c.as_slice.ensures.value at c.has_none.ensures.sure) at.0 (counted_direct (get_or c.self.inside.states.items c.args.node at.0).state.node at.1)
 
 pub returns-clause-told : goal.returns-clause-told
 returns-clause-told g c =
-    λ d direct. let at = held_at g.met.C.Ord.total g.met.C.Cell.exact c.self.inside.live c.self.inside.rels (c.self.inside.rels ++ c.self.inside.places) c.self.inside.states.items c.self.inside.feeds.items c.args.self.now c.self.view_is (λ live. (c.self.invariant live).0) c.requires.live IsTold c.args.node d c.requires.range direct in (rw c.as_slice.ensures.value at c.has_none.ensures.sure) at.0 at.1
+    λ d direct. let at = held_at g.met.C.Ord.total g.met.C.Cell.exact c.self.inside.live c.self.inside.rels (c.self.inside.rels ++ c.self.inside.places) c.self.inside.states.items c.self.inside.feeds.items c.args.self.now c.self.view_is (λ live. (c.self.invariant live).0) c.requires.live IsDirect c.args.node d c.requires.range direct in (rw c.as_slice.ensures.value at c.has_none.ensures.sure) at.0 at.1
