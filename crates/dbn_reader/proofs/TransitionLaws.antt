@@ -12,7 +12,7 @@ use Rattle.dbn_net.specs.Naming.{arc, read, call, resolved_formula, ins_of, read
 use Rattle.dbn_reader.specs.Resolving.{moved, called}
 use Rattle.dbn_reader.specs.declared.misfit.Misfit.{Misfit}
 use Rattle.dbn_reader.specs.declared.misfit.Misfit.TheVariants.{Shape, Memory}
-use Rattle.dbn_reader.specs.Gives.{Misses}
+use Rattle.dbn_reader.specs.Parses.{Misses}
 
 -- where a step gives nothing, the whole gives nothing
 pub missed : {A B : Type 0} (m : Misfit) (o : Option A) (f : A → Option B) → Misses m o → Misses m (o >>= f)

@@ -1,9 +1,9 @@
 pub mod Bound
 pub mod Constants
 pub mod Duplicates
-pub mod Gives
 pub mod Judged
 pub mod Light
+pub mod Parses
 pub mod Quantified
 pub mod Reading
 pub mod Resolving

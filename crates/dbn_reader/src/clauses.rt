@@ -4,7 +4,7 @@ ghost use Rattle.std.specs.Prelude.{◌≡◌, [], Option, Some, OnOk};
 ghost use Rattle.std.specs.List.{list_all};
 ghost use Rattle.dbn_net.specs.Maybe.{each, some};
 ghost use Rattle.dbn_net.specs.Forms.{with_word, written_atom_of, written_atom_in, written_pattern_of, written_pattern_in, written_arc_of, is_guard, guard_of, clause_of, clause_in, rank, repeats, follows, with_clause, bare_transition, clause_step, clauses_from};
-ghost use Rattle.dbn_reader.specs.Gives.{Gives, Leads};
+ghost use Rattle.dbn_reader.specs.Parses.{Parses, ParsesOn};
 
 use super::formulas::body_in;
 use super::misfit::Misfit;
@@ -20,7 +20,7 @@ use std::alloc::{AllocError, Global};
 
 /// `R t..`
 fn written_atom_of(alloc: Global, parts: &[Sexp]) -> Result<WrittenAtom, Misfit>
-    ensures { Gives result (written_atom_of parts.now) }
+    ensures { Parses result (written_atom_of parts.now) }
 {
     match parts {
         [] => Err(Misfit::Shape),
@@ -45,7 +45,7 @@ impl FromSexp for WrittenAtom {
 
 /// `n t..`
 fn written_pattern_of(alloc: Global, parts: &[Sexp]) -> Result<WrittenPattern, Misfit>
-    ensures { Gives result (written_pattern_of parts.now) }
+    ensures { Parses result (written_pattern_of parts.now) }
 {
     match parts {
         [] => Err(Misfit::Shape),
@@ -70,7 +70,7 @@ impl FromSexp for WrittenPattern {
 
 /// `P (n t..)..+`
 fn written_arc_of(alloc: Global, parts: &[Sexp]) -> Result<WrittenArc, Misfit>
-    ensures { Gives result (written_arc_of parts.now) }
+    ensures { Parses result (written_arc_of parts.now) }
 {
     match parts {
         [] => Err(Misfit::Shape),
@@ -113,7 +113,7 @@ fn are_guards(parts: &[WrittenFormula]) -> bool
 }
 
 fn guard_of(alloc: Global, parts: &[Sexp]) -> Result<WrittenClause, Misfit>
-    ensures { Gives result (guard_of parts.now) }
+    ensures { Parses result (guard_of parts.now) }
 {
     match parts {
         [body] => {
@@ -129,7 +129,7 @@ fn guard_of(alloc: Global, parts: &[Sexp]) -> Result<WrittenClause, Misfit>
 }
 
 fn clause_of(alloc: Global, word: &[u8], parts: &[Sexp]) -> Result<WrittenClause, Misfit>
-    ensures { Gives result (clause_of word.now parts.now) }
+    ensures { Parses result (clause_of word.now parts.now) }
 {
     if is_word(word, b"in".as_slice()) {
         let arc = written_arc_of(alloc, parts)?;
@@ -156,7 +156,7 @@ fn clause_of(alloc: Global, word: &[u8], parts: &[Sexp]) -> Result<WrittenClause
 
 /// A list with a first word.
 fn headed(alloc: Global, parts: &[Sexp]) -> Result<WrittenClause, Misfit>
-    ensures { Gives result (with_word clause_of parts.now) }
+    ensures { Parses result (with_word clause_of parts.now) }
 {
     match parts {
         [] => Err(Misfit::Shape),
@@ -168,7 +168,7 @@ fn headed(alloc: Global, parts: &[Sexp]) -> Result<WrittenClause, Misfit>
 }
 
 fn clause_in(alloc: Global, one: &Sexp) -> Result<WrittenClause, Misfit>
-    ensures { Gives result (clause_in one.now) }
+    ensures { Parses result (clause_in one.now) }
 {
     match list_in(one) {
         None => Err(Misfit::Shape),
@@ -256,7 +256,7 @@ impl Draft {
 
     /// Takes up one more clause; `Shape` comes exactly where it is none, or may not stand there.
     fn take(&mut self, alloc: Global, part: &Sexp) -> Result<(), Misfit>
-        ensures { Leads result (self.new.last, self.new.transition) (clause_step (self.old.last, self.old.transition) part.now) }
+        ensures { ParsesOn result (self.new.last, self.new.transition) (clause_step (self.old.last, self.old.transition) part.now) }
     {
         let clause = clause_in(alloc, part)?;
         let next = rank(&clause);
@@ -275,7 +275,7 @@ pub(crate) fn clauses(
     name: Name,
     parts: &[Sexp],
 ) -> Result<WrittenTransition, Misfit>
-    ensures { Gives result (clauses_from (0, bare_transition name) parts.now) }
+    ensures { Parses result (clauses_from (0, bare_transition name) parts.now) }
 {
     let mut draft = Draft::new(alloc, name);
     for part in parts {

@@ -4,7 +4,7 @@ ghost use Rattle.std.specs.Prelude.{◌≡◌, ◌∷◌, if◌then◌else◌, O
 ghost use Rattle.dbn_sexp.specs.Parts.{constant_in};
 ghost use Rattle.dbn_net.specs.Maybe.{each, some};
 ghost use Rattle.dbn_net.specs.Forms.{with_word, is_connective, relation_of, key_of, fields_in, side_of, referring_of, foreign_of, always_of, query_of, effect_of, effect_in, action_of, control_of, view_of, transition_of, fact_of, token_of, declared, declaration_in};
-ghost use Rattle.dbn_reader.specs.Gives.{Gives};
+ghost use Rattle.dbn_reader.specs.Parses.{Parses};
 
 use super::clauses::clauses;
 use super::formulas::{body_in, is_connective};
@@ -17,7 +17,7 @@ use std::alloc::Global;
 
 /// The relation, unless its name is that of a connective or a quantifier.
 fn named_relation(name: Name, fields: TypedNames) -> Result<Written, Misfit>
-    ensures { Gives result (if is_connective name then None else Some (Written.Relation name fields)) }
+    ensures { Parses result (if is_connective name then None else Some (Written.Relation name fields)) }
 {
     if is_connective(name.as_bytes()) {
         Err(Misfit::Shape)
@@ -28,7 +28,7 @@ fn named_relation(name: Name, fields: TypedNames) -> Result<Written, Misfit>
 
 /// `R` and `(f type)..`
 fn relation_parts(alloc: Global, name: &Sexp, parts: &[Sexp]) -> Result<Written, Misfit>
-    ensures { Gives result (relation_of (name.now ∷ parts.now)) }
+    ensures { Parses result (relation_of (name.now ∷ parts.now)) }
 {
     let name = Name::from_sexp(alloc, name)?;
     let fields = each::<(Name, ColType)>(alloc, parts)?;
@@ -37,7 +37,7 @@ fn relation_parts(alloc: Global, name: &Sexp, parts: &[Sexp]) -> Result<Written,
 
 /// `R (f type)..`
 fn relation_of(alloc: Global, parts: &[Sexp]) -> Result<Written, Misfit>
-    ensures { Gives result (relation_of parts.now) }
+    ensures { Parses result (relation_of parts.now) }
 {
     match parts {
         [] => Err(Misfit::Shape),
@@ -47,7 +47,7 @@ fn relation_of(alloc: Global, parts: &[Sexp]) -> Result<Written, Misfit>
 
 /// `R f..+`
 fn key_of(alloc: Global, parts: &[Sexp]) -> Result<Written, Misfit>
-    ensures { Gives result (key_of parts.now) }
+    ensures { Parses result (key_of parts.now) }
 {
     match parts {
         [] => Err(Misfit::Shape),
@@ -61,7 +61,7 @@ fn key_of(alloc: Global, parts: &[Sexp]) -> Result<Written, Misfit>
 
 /// `(f..+)`
 fn fields_in(alloc: Global, one: &Sexp) -> Result<Names, Misfit>
-    ensures { Gives result (fields_in one.now) }
+    ensures { Parses result (fields_in one.now) }
 {
     match list_in(one) {
         None => Err(Misfit::Shape),
@@ -71,7 +71,7 @@ fn fields_in(alloc: Global, one: &Sexp) -> Result<Names, Misfit>
 
 /// `R (f..+)`
 fn side_of(alloc: Global, rel: &Sexp, fields: &Sexp) -> Result<(Name, Names), Misfit>
-    ensures { Gives result (side_of rel.now fields.now) }
+    ensures { Parses result (side_of rel.now fields.now) }
 {
     let rel = Name::from_sexp(alloc, rel)?;
     let fields = fields_in(alloc, fields)?;
@@ -80,7 +80,7 @@ fn side_of(alloc: Global, rel: &Sexp, fields: &Sexp) -> Result<(Name, Names), Mi
 
 /// `S (g..+)`, behind the other side.
 fn referring_of(alloc: Global, from: (Name, Names), parts: &[Sexp]) -> Result<Written, Misfit>
-    ensures { Gives result (referring_of from parts.now) }
+    ensures { Parses result (referring_of from parts.now) }
 {
     match parts {
         [to, to_fields] => {
@@ -99,7 +99,7 @@ fn referring_of(alloc: Global, from: (Name, Names), parts: &[Sexp]) -> Result<Wr
 
 /// `R (f..+) S (g..+)`
 fn foreign_of(alloc: Global, parts: &[Sexp]) -> Result<Written, Misfit>
-    ensures { Gives result (foreign_of parts.now) }
+    ensures { Parses result (foreign_of parts.now) }
 {
     match parts {
         [rel, fields, parts @ ..] => {
@@ -112,7 +112,7 @@ fn foreign_of(alloc: Global, parts: &[Sexp]) -> Result<Written, Misfit>
 
 /// `c formula`
 fn always_of(alloc: Global, parts: &[Sexp]) -> Result<Written, Misfit>
-    ensures { Gives result (always_of parts.now) }
+    ensures { Parses result (always_of parts.now) }
 {
     match parts {
         [name, body] => {
@@ -126,7 +126,7 @@ fn always_of(alloc: Global, parts: &[Sexp]) -> Result<Written, Misfit>
 
 /// `q ((x type)..) formula`
 fn query_of(alloc: Global, parts: &[Sexp]) -> Result<Written, Misfit>
-    ensures { Gives result (query_of parts.now) }
+    ensures { Parses result (query_of parts.now) }
 {
     match parts {
         [name, vars, body] => {
@@ -145,7 +145,7 @@ fn effect_of(
     word: &[u8],
     parts: &[Sexp],
 ) -> Result<WrittenAtoms, Misfit>
-    ensures { Gives result (effect_of kind.now word.now parts.now) }
+    ensures { Parses result (effect_of kind.now word.now parts.now) }
 {
     if is_word(word, kind) {
         each::<WrittenAtom>(alloc, parts)
@@ -156,7 +156,7 @@ fn effect_of(
 
 /// A list with a first word.
 fn headed_effect(alloc: Global, kind: &[u8], parts: &[Sexp]) -> Result<WrittenAtoms, Misfit>
-    ensures { Gives result (with_word (effect_of kind.now) parts.now) }
+    ensures { Parses result (with_word (effect_of kind.now) parts.now) }
 {
     match parts {
         [] => Err(Misfit::Shape),
@@ -169,7 +169,7 @@ fn headed_effect(alloc: Global, kind: &[u8], parts: &[Sexp]) -> Result<WrittenAt
 
 /// `(delete (R t..)..)` or `(add (R t..)..)`
 fn effect_in(alloc: Global, kind: &[u8], one: &Sexp) -> Result<WrittenAtoms, Misfit>
-    ensures { Gives result (effect_in kind.now one.now) }
+    ensures { Parses result (effect_in kind.now one.now) }
 {
     match list_in(one) {
         None => Err(Misfit::Shape),
@@ -179,7 +179,7 @@ fn effect_in(alloc: Global, kind: &[u8], one: &Sexp) -> Result<WrittenAtoms, Mis
 
 /// `a ((p type)..) (delete (R t..)..) (add (R t..)..)`
 fn action_of(alloc: Global, parts: &[Sexp]) -> Result<Written, Misfit>
-    ensures { Gives result (action_of parts.now) }
+    ensures { Parses result (action_of parts.now) }
 {
     match parts {
         [name, params, deletes, adds] => {
@@ -200,7 +200,7 @@ fn action_of(alloc: Global, parts: &[Sexp]) -> Result<Written, Misfit>
 
 /// `P type..`
 fn control_of(alloc: Global, parts: &[Sexp]) -> Result<Written, Misfit>
-    ensures { Gives result (control_of parts.now) }
+    ensures { Parses result (control_of parts.now) }
 {
     match parts {
         [] => Err(Misfit::Shape),
@@ -214,7 +214,7 @@ fn control_of(alloc: Global, parts: &[Sexp]) -> Result<Written, Misfit>
 
 /// `V q`
 fn view_of(alloc: Global, parts: &[Sexp]) -> Result<Written, Misfit>
-    ensures { Gives result (view_of parts.now) }
+    ensures { Parses result (view_of parts.now) }
 {
     match parts {
         [name, query] => {
@@ -228,7 +228,7 @@ fn view_of(alloc: Global, parts: &[Sexp]) -> Result<Written, Misfit>
 
 /// `T clause..`
 fn transition_of(alloc: Global, parts: &[Sexp]) -> Result<Written, Misfit>
-    ensures { Gives result (transition_of parts.now) }
+    ensures { Parses result (transition_of parts.now) }
 {
     match parts {
         [] => Err(Misfit::Shape),
@@ -242,7 +242,7 @@ fn transition_of(alloc: Global, parts: &[Sexp]) -> Result<Written, Misfit>
 
 /// The row of the constants that the parts are.
 fn row_of(alloc: Global, parts: &[Sexp]) -> Result<Row<Value>, Misfit>
-    ensures { Gives result (each constant_in parts.now) }
+    ensures { Parses result (each constant_in parts.now) }
 {
     let mut row = Vec::new(alloc);
     for one in parts {
@@ -253,7 +253,7 @@ fn row_of(alloc: Global, parts: &[Sexp]) -> Result<Row<Value>, Misfit>
 
 /// `R v..`
 fn fact_of(alloc: Global, parts: &[Sexp]) -> Result<Written, Misfit>
-    ensures { Gives result (fact_of parts.now) }
+    ensures { Parses result (fact_of parts.now) }
 {
     match parts {
         [] => Err(Misfit::Shape),
@@ -267,7 +267,7 @@ fn fact_of(alloc: Global, parts: &[Sexp]) -> Result<Written, Misfit>
 
 /// `P n v..`
 fn token_of(alloc: Global, parts: &[Sexp]) -> Result<Written, Misfit>
-    ensures { Gives result (token_of parts.now) }
+    ensures { Parses result (token_of parts.now) }
 {
     match parts {
         [place, many, parts @ ..] => {
@@ -281,7 +281,7 @@ fn token_of(alloc: Global, parts: &[Sexp]) -> Result<Written, Misfit>
 }
 
 fn declared(alloc: Global, word: &[u8], parts: &[Sexp]) -> Result<Written, Misfit>
-    ensures { Gives result (declared word.now parts.now) }
+    ensures { Parses result (declared word.now parts.now) }
 {
     if is_word(word, b"relation".as_slice()) {
         relation_of(alloc, parts)
@@ -312,7 +312,7 @@ fn declared(alloc: Global, word: &[u8], parts: &[Sexp]) -> Result<Written, Misfi
 
 /// A list with a first word.
 fn headed(alloc: Global, parts: &[Sexp]) -> Result<Written, Misfit>
-    ensures { Gives result (with_word declared parts.now) }
+    ensures { Parses result (with_word declared parts.now) }
 {
     match parts {
         [] => Err(Misfit::Shape),
@@ -326,7 +326,7 @@ fn headed(alloc: Global, parts: &[Sexp]) -> Result<Written, Misfit>
 /// The declaration that the S-expression is; `Shape` comes exactly where it is none.
 #[tactic(auto, unfolding(dbn_net::specs::Forms::declaration_in))]
 pub(crate) fn declaration_in(alloc: Global, one: &Sexp) -> Result<Written, Misfit>
-    ensures { Gives result (declaration_in one.now) }
+    ensures { Parses result (declaration_in one.now) }
 {
     match list_in(one) {
         None => Err(Misfit::Shape),

@@ -3,7 +3,7 @@
 ghost use Rattle.std.specs.Prelude.{◌≡◌, Option};
 ghost use Rattle.dbn_net.specs.Maybe.{each};
 ghost use Rattle.dbn_net.specs.Forms.{with_word, is_connective, comparison_of, test_of, atom_of, compared_or_atom, one_of, two_of, quantified_of, connected, formula_of, formula_in, body_in};
-ghost use Rattle.dbn_reader.specs.Gives.{Gives};
+ghost use Rattle.dbn_reader.specs.Parses.{Parses};
 
 use super::misfit::Misfit;
 use super::words::{FromSexp, each, is_word, some_scope_in};
@@ -18,7 +18,7 @@ const MOST_LEVELS: usize = 64;
 
 /// The formula that the S-expression is; `Shape` comes exactly where it is none.
 pub(crate) fn body_in(alloc: Global, one: &Sexp) -> Result<WrittenFormula, Misfit>
-    ensures { Gives result (body_in one.now) }
+    ensures { Parses result (body_in one.now) }
 {
     formula_in(alloc, MOST_LEVELS, one)
 }
@@ -27,7 +27,7 @@ pub(crate) fn body_in(alloc: Global, one: &Sexp) -> Result<WrittenFormula, Misfi
 #[cycle(formulas)]
 #[tactic(auto, using(crate::proofs::DepthLaws::depth_laws))]
 fn formula_in(alloc: Global, depth: usize, one: &Sexp) -> Result<WrittenFormula, Misfit>
-    ensures { Gives result (formula_in depth one.now) }
+    ensures { Parses result (formula_in depth one.now) }
 {
     if depth == 0 {
         return Err(Misfit::Shape);
@@ -41,7 +41,7 @@ fn formula_in(alloc: Global, depth: usize, one: &Sexp) -> Result<WrittenFormula,
 /// A list with a first word.
 #[cycle(formulas)]
 fn headed(alloc: Global, depth: usize, parts: &[Sexp]) -> Result<WrittenFormula, Misfit>
-    ensures { Gives result (with_word (formula_of (formula_in depth)) parts.now) }
+    ensures { Parses result (with_word (formula_of (formula_in depth)) parts.now) }
 {
     match parts {
         [] => Err(Misfit::Shape),
@@ -59,7 +59,7 @@ fn formula_of(
     word: &Name,
     parts: &[Sexp],
 ) -> Result<WrittenFormula, Misfit>
-    ensures { Gives result (formula_of (formula_in depth) word.now parts.now) }
+    ensures { Parses result (formula_of (formula_in depth) word.now parts.now) }
 {
     if is_connective(word.as_bytes()) {
         connected(alloc, depth, word.as_bytes(), parts)
@@ -75,7 +75,7 @@ fn connected(
     word: &[u8],
     parts: &[Sexp],
 ) -> Result<WrittenFormula, Misfit>
-    ensures { Gives result (connected (formula_in depth) word.now parts.now) }
+    ensures { Parses result (connected (formula_in depth) word.now parts.now) }
 {
     if is_word(word, b"and".as_slice()) {
         Ok(WrittenFormula::And(each_formula(alloc, depth, parts)?))
@@ -102,7 +102,7 @@ fn connected(
 
 #[cycle(formulas)]
 fn each_formula(alloc: Global, depth: usize, parts: &[Sexp]) -> Result<WrittenFormulas, Misfit>
-    ensures { Gives result (each (formula_in depth) parts.now) }
+    ensures { Parses result (each (formula_in depth) parts.now) }
 {
     let mut made = Items::new(alloc);
     for one in parts {
@@ -113,7 +113,7 @@ fn each_formula(alloc: Global, depth: usize, parts: &[Sexp]) -> Result<WrittenFo
 
 #[cycle(formulas)]
 fn one_of(alloc: Global, depth: usize, parts: &[Sexp]) -> Result<WrittenFormula, Misfit>
-    ensures { Gives result (one_of (formula_in depth) parts.now) }
+    ensures { Parses result (one_of (formula_in depth) parts.now) }
 {
     match parts {
         [one] => formula_in(alloc, depth, one),
@@ -127,7 +127,7 @@ fn two_of(
     depth: usize,
     parts: &[Sexp],
 ) -> Result<(WrittenFormula, WrittenFormula), Misfit>
-    ensures { Gives result (two_of (formula_in depth) parts.now) }
+    ensures { Parses result (two_of (formula_in depth) parts.now) }
 {
     match parts {
         [left, right] => {
@@ -145,7 +145,7 @@ fn quantified_of(
     depth: usize,
     parts: &[Sexp],
 ) -> Result<(TypedVars, WrittenFormula), Misfit>
-    ensures { Gives result (quantified_of (formula_in depth) parts.now) }
+    ensures { Parses result (quantified_of (formula_in depth) parts.now) }
 {
     match parts {
         [vars, body] => {
@@ -196,7 +196,7 @@ fn compared_or_atom(
     word: &Name,
     parts: &[Sexp],
 ) -> Result<WrittenFormula, Misfit>
-    ensures { Gives result (compared_or_atom comparison word.now parts.now) }
+    ensures { Parses result (compared_or_atom comparison word.now parts.now) }
 {
     match comparison {
         None => atom_of(alloc, word, parts),
@@ -205,7 +205,7 @@ fn compared_or_atom(
 }
 
 fn atom_of(alloc: Global, word: &Name, parts: &[Sexp]) -> Result<WrittenFormula, Misfit>
-    ensures { Gives result (atom_of word.now parts.now) }
+    ensures { Parses result (atom_of word.now parts.now) }
 {
     if !word.is_plain() {
         return Err(Misfit::Shape);
@@ -216,7 +216,7 @@ fn atom_of(alloc: Global, word: &Name, parts: &[Sexp]) -> Result<WrittenFormula,
 }
 
 fn test_of(alloc: Global, cmp: Cmp, parts: &[Sexp]) -> Result<WrittenFormula, Misfit>
-    ensures { Gives result (test_of cmp parts.now) }
+    ensures { Parses result (test_of cmp parts.now) }
 {
     match parts {
         [left, right] => {

@@ -7,7 +7,7 @@ ghost use Rattle.dbn_net.specs.Maybe.{each, if_given};
 ghost use Rattle.dbn_net.specs.Tables.{relations, relation_names};
 ghost use Rattle.dbn_net.specs.Naming.{number_of, resolved_formula, count, pattern, arc, read, call, ins_of, reads_of, is_in_clause, transition, fields_of, resolved_key, resolved_foreign, fact_pattern, resolved_action, resolved};
 ghost use Rattle.dbn_net.specs.declared.written.WrittenInput.{WrittenInput as Clause};
-ghost use Rattle.dbn_reader.specs.Gives.{Gives};
+ghost use Rattle.dbn_reader.specs.Parses.{Parses};
 ghost use Rattle.dbn_reader.specs.Resolving.{moved, called};
 
 use super::bound::bound_of;
@@ -28,7 +28,7 @@ use std::alloc::{AllocError, Global};
 
 /// What was found; `Shape` comes exactly where nothing was.
 fn known<T: Drop>(found: Option<T>) -> Result<T, Misfit>
-    ensures { Gives result found }
+    ensures { Parses result found }
 {
     match found {
         Some(found) => Ok(found),
@@ -39,7 +39,7 @@ fn known<T: Drop>(found: Option<T>) -> Result<T, Misfit>
 /// The number of the relation with this name.
 #[tactic(auto, using(crate::proofs::NumberLaws::number_laws))]
 fn relation_number(net: &Net, name: &Name) -> Result<usize, Misfit>
-    ensures value { Gives result (number_of (relation_names net.now) name.now) }
+    ensures value { Parses result (number_of (relation_names net.now) name.now) }
     ensures within { IfOk result (λ n. n < length (relations net.now)) }
 {
     match net.relation(name.as_bytes()) {
@@ -52,7 +52,7 @@ fn relation_number(net: &Net, name: &Name) -> Result<usize, Misfit>
 #[cycle(resolved)]
 #[tactic(auto, using(crate::proofs::ResolvedLaws::resolved_laws, crate::proofs::WrittenWeights::weight_laws))]
 fn resolved_formula(alloc: Global, net: &Net, written: WrittenFormula) -> Result<Formula, Misfit>
-    ensures { Gives result (resolved_formula (relation_names net.now) written) }
+    ensures { Parses result (resolved_formula (relation_names net.now) written) }
 {
     match written {
         WrittenFormula::Atom { rel, terms } => {
@@ -88,7 +88,7 @@ fn resolved_formula(alloc: Global, net: &Net, written: WrittenFormula) -> Result
 
 #[cycle(resolved)]
 fn each_formula(alloc: Global, net: &Net, written: WrittenFormulas) -> Result<Formulas, Misfit>
-    ensures { Gives result (each (resolved_formula (relation_names net.now)) written) }
+    ensures { Parses result (each (resolved_formula (relation_names net.now)) written) }
 {
     let mut left = Queue::new(alloc, written)?;
     let mut made = Items::new(alloc);
@@ -100,14 +100,14 @@ fn each_formula(alloc: Global, net: &Net, written: WrittenFormulas) -> Result<Fo
 
 /// A guard names no relation: it is resolved in the net without declarations.
 fn guard_formula(alloc: Global, written: WrittenFormula) -> Result<Formula, Misfit>
-    ensures { Gives result (resolved_formula [] written) }
+    ensures { Parses result (resolved_formula [] written) }
 {
     let nothing = Net::empty(alloc);
     resolved_formula(alloc, &nothing, written)
 }
 
 fn resolved_guard(alloc: Global, written: Option<WrittenFormula>) -> Result<Option<Formula>, Misfit>
-    ensures { Gives result (if_given (resolved_formula []) written) }
+    ensures { Parses result (if_given (resolved_formula []) written) }
 {
     match written {
         None => Ok(None),
@@ -138,7 +138,7 @@ fn each_pattern(alloc: Global, written: WrittenPatterns) -> Result<Patterns, All
 
 /// The place of an arc is a control place.
 fn arc_of(alloc: Global, net: &Net, written: WrittenArc) -> Result<Arc, Misfit>
-    ensures { Gives result (arc net.now written) }
+    ensures { Parses result (arc net.now written) }
 {
     let place = known(control_number(net, written.place.as_bytes()))?;
     let patterns = each_pattern(alloc, written.patterns)?;
@@ -146,7 +146,7 @@ fn arc_of(alloc: Global, net: &Net, written: WrittenArc) -> Result<Arc, Misfit>
 }
 
 fn each_arc(alloc: Global, net: &Net, written: WrittenArcs) -> Result<Arcs, Misfit>
-    ensures { Gives result (each (arc net.now) written) }
+    ensures { Parses result (each (arc net.now) written) }
 {
     let mut left = Queue::new(alloc, written)?;
     let mut made = Items::new(alloc);
@@ -158,7 +158,7 @@ fn each_arc(alloc: Global, net: &Net, written: WrittenArcs) -> Result<Arcs, Misf
 
 /// What is read is a view.
 fn read_of(net: &Net, written: WrittenAtom) -> Result<Read, Misfit>
-    ensures { Gives result (read net.now written) }
+    ensures { Parses result (read net.now written) }
 {
     let view = known(view_number(net, written.name.as_bytes()))?;
     Ok(Read {
@@ -168,7 +168,7 @@ fn read_of(net: &Net, written: WrittenAtom) -> Result<Read, Misfit>
 }
 
 fn each_read(alloc: Global, net: &Net, written: WrittenAtoms) -> Result<Reads, Misfit>
-    ensures { Gives result (each (read net.now) written) }
+    ensures { Parses result (each (read net.now) written) }
 {
     let mut left = Queue::new(alloc, written)?;
     let mut made = Items::new(alloc);
@@ -179,7 +179,7 @@ fn each_read(alloc: Global, net: &Net, written: WrittenAtoms) -> Result<Reads, M
 }
 
 fn resolved_call(net: &Net, written: Option<WrittenAtom>) -> Result<Option<Call>, Misfit>
-    ensures { Gives result (if_given (call net.now) written) }
+    ensures { Parses result (if_given (call net.now) written) }
 {
     match written {
         None => Ok(None),
@@ -249,7 +249,7 @@ fn moved(
     outs: WrittenArcs,
     backs: WrittenArcs,
 ) -> Result<(Arcs, Reads, Arcs, Arcs), Misfit>
-    ensures { (written : List Clause) → ins ≡ ins_of written → reads ≡ reads_of written → Gives result (moved net.now written outs backs) }
+    ensures { (written : List Clause) → ins ≡ ins_of written → reads ≡ reads_of written → Parses result (moved net.now written outs backs) }
 {
     let ins = each_arc(alloc, net, ins)?;
     let reads = each_read(alloc, net, reads)?;
@@ -265,7 +265,7 @@ fn called(
     guard: Option<WrittenFormula>,
     call: Option<WrittenAtom>,
 ) -> Result<(Option<Formula>, Option<Call>), Misfit>
-    ensures { Gives result (called net.now guard call) }
+    ensures { Parses result (called net.now guard call) }
 {
     let guard = resolved_guard(alloc, guard)?;
     let call = resolved_call(net, call)?;
@@ -274,7 +274,7 @@ fn called(
 
 #[tactic(auto, using(crate::proofs::TransitionLaws::transition_laws))]
 fn transition_of(alloc: Global, net: &Net, written: WrittenTransition) -> Result<Transition, Misfit>
-    ensures { Gives result (transition net.now written) }
+    ensures { Parses result (transition net.now written) }
 {
     let WrittenTransition {
         name,
@@ -317,14 +317,14 @@ fn column(fields: &[(Name, ColType)], name: &Name) -> Option<usize>
 }
 
 fn column_number(fields: &[(Name, ColType)], name: &Name) -> Result<usize, Misfit>
-    ensures { Gives result (number_of (map (λ f. f.0) fields.now) name.now) }
+    ensures { Parses result (number_of (map (λ f. f.0) fields.now) name.now) }
 {
     known(column(fields, name))
 }
 
 /// The numbers of the columns with these names.
 fn columns_of(alloc: Global, fields: &[(Name, ColType)], names: &[Name]) -> Result<Nums, Misfit>
-    ensures { Gives result (each (number_of (map (λ f. f.0) fields.now)) names.now) }
+    ensures { Parses result (each (number_of (map (λ f. f.0) fields.now)) names.now) }
 {
     let mut numbers = Vec::new(alloc);
     for name in names {
@@ -336,7 +336,7 @@ fn columns_of(alloc: Global, fields: &[(Name, ColType)], names: &[Name]) -> Resu
 /// The numbers of the columns of the relation with these names.
 fn fields_of(alloc: Global, net: &Net, rel: usize, names: &[Name]) -> Result<Nums, Misfit>
     requires { rel < length (relations net.now) }
-    ensures { Gives result (fields_of net.now rel names.now) }
+    ensures { Parses result (fields_of net.now rel names.now) }
 {
     match net.relation_at(rel) {
         Decl::Relation { name: _, fields } => columns_of(alloc, fields.as_slice(), names),
@@ -345,7 +345,7 @@ fn fields_of(alloc: Global, net: &Net, rel: usize, names: &[Name]) -> Result<Num
 }
 
 fn resolved_key(alloc: Global, net: &Net, rel: Name, fields: Names) -> Result<Decl, Misfit>
-    ensures { Gives result (resolved_key net.now rel fields) }
+    ensures { Parses result (resolved_key net.now rel fields) }
 {
     let rel = relation_number(net, &rel)?;
     let fields = fields_of(alloc, net, rel, fields.as_slice())?;
@@ -360,7 +360,7 @@ fn resolved_foreign(
     to: Name,
     to_fields: Names,
 ) -> Result<Decl, Misfit>
-    ensures { Gives result (resolved_foreign net.now rel fields to to_fields) }
+    ensures { Parses result (resolved_foreign net.now rel fields to to_fields) }
 {
     let rel = relation_number(net, &rel)?;
     let fields = fields_of(alloc, net, rel, fields.as_slice())?;
@@ -375,7 +375,7 @@ fn resolved_foreign(
 }
 
 fn fact_of(net: &Net, written: WrittenAtom) -> Result<FactPattern, Misfit>
-    ensures { Gives result (fact_pattern (relation_names net.now) written) }
+    ensures { Parses result (fact_pattern (relation_names net.now) written) }
 {
     let rel = known(net.relation(written.name.as_bytes()))?;
     Ok(FactPattern {
@@ -385,7 +385,7 @@ fn fact_of(net: &Net, written: WrittenAtom) -> Result<FactPattern, Misfit>
 }
 
 fn each_fact(alloc: Global, net: &Net, written: WrittenAtoms) -> Result<FactPatterns, Misfit>
-    ensures { Gives result (each (fact_pattern (relation_names net.now)) written) }
+    ensures { Parses result (each (fact_pattern (relation_names net.now)) written) }
 {
     let mut left = Queue::new(alloc, written)?;
     let mut made = Items::new(alloc);
@@ -403,7 +403,7 @@ fn resolved_action(
     deletes: WrittenAtoms,
     adds: WrittenAtoms,
 ) -> Result<Decl, Misfit>
-    ensures { Gives result (resolved_action net.now name params deletes adds) }
+    ensures { Parses result (resolved_action net.now name params deletes adds) }
 {
     let deletes = each_fact(alloc, net, deletes)?;
     let adds = each_fact(alloc, net, adds)?;
@@ -416,7 +416,7 @@ fn resolved_action(
 }
 
 fn key_entry(alloc: Global, net: &Net, rel: Name, fields: Names) -> Result<Entry, Misfit>
-    ensures { Gives result (resolved net.now (Written.Key rel fields)) }
+    ensures { Parses result (resolved net.now (Written.Key rel fields)) }
 {
     let decl = resolved_key(alloc, net, rel, fields)?;
     Ok(Entry::Part(decl))
@@ -430,14 +430,14 @@ fn foreign_entry(
     to: Name,
     to_fields: Names,
 ) -> Result<Entry, Misfit>
-    ensures { Gives result (resolved net.now (Written.Foreign rel fields to to_fields)) }
+    ensures { Parses result (resolved net.now (Written.Foreign rel fields to to_fields)) }
 {
     let decl = resolved_foreign(alloc, net, rel, fields, to, to_fields)?;
     Ok(Entry::Part(decl))
 }
 
 fn always_entry(alloc: Global, net: &Net, name: Name, body: WrittenFormula) -> Result<Entry, Misfit>
-    ensures { Gives result (resolved net.now (Written.Always name body)) }
+    ensures { Parses result (resolved net.now (Written.Always name body)) }
 {
     let body = resolved_formula(alloc, net, body)?;
     Ok(Entry::Part(Decl::Always { name, body }))
@@ -450,7 +450,7 @@ fn query_entry(
     vars: TypedVars,
     body: WrittenFormula,
 ) -> Result<Entry, Misfit>
-    ensures { Gives result (resolved net.now (Written.Query name vars body)) }
+    ensures { Parses result (resolved net.now (Written.Query name vars body)) }
 {
     let body = resolved_formula(alloc, net, body)?;
     Ok(Entry::Part(Decl::Query { name, vars, body }))
@@ -464,14 +464,14 @@ fn action_entry(
     deletes: WrittenAtoms,
     adds: WrittenAtoms,
 ) -> Result<Entry, Misfit>
-    ensures { Gives result (resolved net.now (Written.Action name params deletes adds)) }
+    ensures { Parses result (resolved net.now (Written.Action name params deletes adds)) }
 {
     let decl = resolved_action(alloc, net, name, params, deletes, adds)?;
     Ok(Entry::Part(decl))
 }
 
 fn view_entry(net: &Net, name: Name, query: Name) -> Result<Entry, Misfit>
-    ensures { Gives result (resolved net.now (Written.View name query)) }
+    ensures { Parses result (resolved net.now (Written.View name query)) }
 {
     let query = known(net.query(query.as_bytes()))?;
     Ok(Entry::Part(Decl::Site(Place::View { name, query })))
@@ -482,21 +482,21 @@ fn transition_entry(
     net: &Net,
     transition: WrittenTransition,
 ) -> Result<Entry, Misfit>
-    ensures { Gives result (resolved net.now (Written.Transition transition)) }
+    ensures { Parses result (resolved net.now (Written.Transition transition)) }
 {
     let transition = transition_of(alloc, net, transition)?;
     Ok(Entry::Part(Decl::Trans(transition)))
 }
 
 fn fact_entry(net: &Net, rel: Name, row: Row<Value>) -> Result<Entry, Misfit>
-    ensures { Gives result (resolved net.now (Written.Fact rel row)) }
+    ensures { Parses result (resolved net.now (Written.Fact rel row)) }
 {
     let rel = known(net.relation(rel.as_bytes()))?;
     Ok(Entry::Fact { rel, row })
 }
 
 fn token_entry(net: &Net, place: Name, many: i64, row: Row<Value>) -> Result<Entry, Misfit>
-    ensures { Gives result (resolved net.now (Written.Token place many row)) }
+    ensures { Parses result (resolved net.now (Written.Token place many row)) }
 {
     let place = known(control_number(net, place.as_bytes()))?;
     let many = count(many);
@@ -505,7 +505,7 @@ fn token_entry(net: &Net, place: Name, many: i64, row: Row<Value>) -> Result<Ent
 
 /// What the declaration means.
 fn entry_of(alloc: Global, net: &Net, written: Written) -> Result<Entry, Misfit>
-    ensures { Gives result (resolved net.now written) }
+    ensures { Parses result (resolved net.now written) }
 {
     match written {
         Written::Relation { name, fields } => Ok(Entry::Part(Decl::Relation { name, fields })),

@@ -6,7 +6,7 @@ ghost use Rattle.dbn_sexp.specs.Parts.{word_in, constant_in, list_in};
 ghost use Rattle.dbn_net.specs.Maybe.{each, some};
 ghost use Rattle.dbn_net.specs.Forms.{is_word, name_in, variable_in, term_in, type_of, type_in, typed_of, typed_in, typed_variable_in, scope_in, some_scope_in, int_of, int_in};
 ghost use Rattle.dbn_reader.specs.Constants.{constant_term};
-ghost use Rattle.dbn_reader.specs.Gives.{Gives};
+ghost use Rattle.dbn_reader.specs.Parses.{Parses};
 
 use super::misfit::Misfit;
 use dbn_sexp::{Sexp, constant_in, list_in, word_in};
@@ -21,12 +21,12 @@ pub(crate) trait FromSexp: Sized + Drop {
 
     /// What the S-expression is; `Shape` comes exactly where it is none.
     fn from_sexp(alloc: Global, one: &Sexp) -> Result<Self, Misfit>
-        ensures { Gives result (read one.now) };
+        ensures { Parses result (read one.now) };
 }
 
 /// What each of the parts is; `Shape` comes exactly where one of them is none.
 pub(crate) fn each<T: FromSexp>(alloc: Global, parts: &[Sexp]) -> Result<Items<T>, Misfit>
-    ensures { Gives result (each T.read parts.now) }
+    ensures { Parses result (each T.read parts.now) }
 {
     let mut made = Items::new(alloc);
     for one in parts {
@@ -37,7 +37,7 @@ pub(crate) fn each<T: FromSexp>(alloc: Global, parts: &[Sexp]) -> Result<Items<T
 
 /// The list, if it has an item.
 pub(crate) fn some<T: Drop>(items: Items<T>) -> Result<Items<T>, Misfit>
-    ensures { Gives result (some items) }
+    ensures { Parses result (some items) }
 {
     match items.as_slice() {
         [] => Err(Misfit::Shape),
@@ -103,7 +103,7 @@ impl FromSexp for Term {
 
 /// The constant that the S-expression is, as a term.
 fn constant_term(alloc: Global, one: &Sexp) -> Result<Term, Misfit>
-    ensures { Gives result (constant_term one.now) }
+    ensures { Parses result (constant_term one.now) }
 {
     let value = Value::from_sexp(alloc, one)?;
     Ok(Term::Const(value))
@@ -140,7 +140,7 @@ impl FromSexp for ColType {
 
 /// `(f type)`, without its parentheses.
 fn typed_of(alloc: Global, parts: &[Sexp]) -> Result<(Name, ColType), Misfit>
-    ensures { Gives result (typed_of parts.now) }
+    ensures { Parses result (typed_of parts.now) }
 {
     match parts {
         [name, kind] => {
@@ -154,7 +154,7 @@ fn typed_of(alloc: Global, parts: &[Sexp]) -> Result<(Name, ColType), Misfit>
 
 /// `(f type)`
 fn typed_in(alloc: Global, one: &Sexp) -> Result<(Name, ColType), Misfit>
-    ensures { Gives result (typed_in one.now) }
+    ensures { Parses result (typed_in one.now) }
 {
     match list_in(one) {
         None => Err(Misfit::Shape),
@@ -181,7 +181,7 @@ impl FromSexp for (Var, ColType) {
 
 /// `((x type)..)`
 pub(crate) fn scope_in(alloc: Global, one: &Sexp) -> Result<TypedVars, Misfit>
-    ensures { Gives result (scope_in one.now) }
+    ensures { Parses result (scope_in one.now) }
 {
     match list_in(one) {
         None => Err(Misfit::Shape),
@@ -191,14 +191,14 @@ pub(crate) fn scope_in(alloc: Global, one: &Sexp) -> Result<TypedVars, Misfit>
 
 /// `((x type)..+)`
 pub(crate) fn some_scope_in(alloc: Global, one: &Sexp) -> Result<TypedVars, Misfit>
-    ensures { Gives result (some_scope_in one.now) }
+    ensures { Parses result (some_scope_in one.now) }
 {
     some(scope_in(alloc, one)?)
 }
 
 /// The int that the S-expression is. This takes no memory.
 pub(crate) fn int_in(one: &Sexp) -> Result<i64, Misfit>
-    ensures { Gives result (int_in one.now) }
+    ensures { Parses result (int_in one.now) }
 {
     match constant_in(one) {
         None => Err(Misfit::Shape),
@@ -208,7 +208,7 @@ pub(crate) fn int_in(one: &Sexp) -> Result<i64, Misfit>
 
 /// The int that the value is.
 fn int_of(value: &Value) -> Result<i64, Misfit>
-    ensures { Gives result (int_of value.now) }
+    ensures { Parses result (int_of value.now) }
 {
     match value {
         Value::Int(n) => Ok(*n),

@@ -5,7 +5,7 @@ use Rattle.dbn_net.specs.Maybe.{each}
 use Rattle.dbn_net.specs.Tables.{relation_in, relations}
 use Rattle.dbn_net.specs.Naming.{number_of}
 use Rattle.dbn_net.proofs.PositionLaws.{there}
-use Rattle.dbn_reader.specs.Gives.{Gives}
+use Rattle.dbn_reader.specs.Parses.{Parses}
 use Rattle.dbn_reader.proofs.ResolvedLaws.{fields_there, relation_in_is}
 use Rattle.dbn_reader.proofs.resolving.fields_of.Goals as goal
 
@@ -16,6 +16,6 @@ unreachable-requires c =
 
 pub returns : goal.returns
 returns c =
-    subst (λ (names : List Name). Gives c.columns_of.result (each (number_of names) c.args.names.now))
+    subst (λ (names : List Name). Parses c.columns_of.result (each (number_of names) c.args.names.now))
     (ap (λ (fs : List (Name × ColType)). map (λ (f : Name × ColType). f.0) fs) c.as_slice.ensures ∙ sym (fields_there c.args.net.now c.args.rel c.in-Relation.name c.in-Relation.fields (ap relation_in (sym c.in-Relation.is) ∙ c.relation_at.ensures)))
     c.columns_of.ensures

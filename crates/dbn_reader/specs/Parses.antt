@@ -8,11 +8,11 @@ abbrev pub Misses : {A : Type 0} → Misfit → Option A → Type 0
 Misses Shape read = read ≡ None
 Misses Memory read = Unit {0}
 
-abbrev pub Gives : {A : Type 0} → Result A Misfit → Option A → Type 0
-Gives (Ok x) read = read ≡ Some x
-Gives (Err misfit) read = Misses misfit read
+abbrev pub Parses : {A : Type 0} → Result A Misfit → Option A → Type 0
+Parses (Ok x) read = read ≡ Some x
+Parses (Err misfit) read = Misses misfit read
 
 -- the same of a call that leads from a state to another one
-abbrev pub Leads : {A U : Type 0} → Result U Misfit → A → Option A → Type 0
-Leads (Ok u) state read = read ≡ Some state
-Leads (Err misfit) state read = Misses misfit read
+abbrev pub ParsesOn : {A U : Type 0} → Result U Misfit → A → Option A → Type 0
+ParsesOn (Ok u) state read = read ≡ Some state
+ParsesOn (Err misfit) state read = Misses misfit read
