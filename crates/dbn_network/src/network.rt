@@ -1,5 +1,6 @@
-ghost use Rattle.std.specs.Prelude.{◌≡◌, ◌<◌, ◌≤◌, ◌+◌, max, ◌++◌, ◌↔◌, [], map, length, true, false, slice_index_or, IfOk, OnOk, OnErr, IsOk, IsTrue};
+ghost use Rattle.std.specs.Prelude.{◌≡◌, ◌<◌, ◌≤◌, ◌+◌, max, ◌++◌, ◌↔◌, [], map, length, true, false, slice_get, slice_index_or, IfOk, OnOk, OnErr, IsOk, IsTrue};
 ghost use Rattle.std.specs.Cmp.Lexicographic.{slice_cmp};
+ghost use Rattle.std.specs.Option.{option_copied};
 ghost use Rattle.dbn_value.specs.Shape.{HasShape};
 ghost use Rattle.dbn_nodes.specs.Changes.{row_in};
 ghost use Rattle.dbn_instance.specs.Facts.{Fits as FitsNow, changed};
@@ -17,6 +18,7 @@ use super::feeds::{note_at, push_tables};
 use super::held::Held;
 use super::input::{left_input, right_input};
 use super::pass::run;
+use super::tables::node_in;
 use super::walks::{Walk, lengthen_all, push_walks};
 use dbn_nodes::{Event, Events, Keyed, Node, Steps};
 use dbn_value::{Cell, Row, RowsOf, Shapes};
@@ -87,6 +89,13 @@ impl<C: Cell> Network<C> {
         ensures { result.now ≡ self.now.rels }
     {
         &self.rels
+    }
+
+    /// The node with this number, and `None` exactly where there are not so many.
+    pub fn node_at(&self, number: usize) -> Option<&Node<C>>
+        ensures { option_copied result ≡ slice_get self.now.nodes number }
+    {
+        node_in(self.states.as_slice(), number)
     }
 
     /// The event of a feed: the rows of all nodes follow it. It takes at most eight steps for each node and for each event that the

@@ -1,4 +1,5 @@
-ghost use Rattle.std.specs.Prelude.{◌≡◌, ◌<◌, ◌↔◌, List, [], length, slice_index_or, IfOk, IsOk, IsTrue};
+ghost use Rattle.std.specs.Prelude.{◌≡◌, ◌<◌, ◌↔◌, List, [], length, slice_get, slice_index_or, IfOk, IsOk, IsTrue};
+ghost use Rattle.std.specs.Option.{option_copied};
 ghost use Rattle.std.specs.Cmp.Lexicographic.{slice_cmp};
 ghost use Rattle.dbn_value.specs.declared.value.ColType.{ColType as Column};
 ghost use Rattle.dbn_nodes.specs.Tables.{has, AreRowsOf};
@@ -13,6 +14,16 @@ use dbn_value::{Cell, Row, RowsOf};
 use sqlite_items::Items;
 use std::alloc::{AllocError, Global};
 use std::sync::ledger::Ledger;
+
+/// The node with this number.
+pub(crate) fn node_in<C: Cell>(states: &[Held<C>], number: usize) -> Option<&Node<C>>
+    ensures { option_copied result ≡ slice_get (nodes_of states.now) number }
+{
+    match states.get(number) {
+        Some(held) => Some(&held.state.node),
+        None => None,
+    }
+}
 
 /// The rows of a feed.
 pub(crate) fn feed_rows<C: Cell, L: Ledger>(
