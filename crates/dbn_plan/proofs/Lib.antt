@@ -15,8 +15,10 @@ pub mod RoomLaws
 pub mod Rows
 pub mod ScanLaws
 pub mod SentenceLaws
+pub mod SplitLaws
 pub mod StepLaws
 pub mod StepsMade
 pub mod TestLaws
 pub mod TestedLaws
 pub mod TopLaws
+pub mod UnionLaws

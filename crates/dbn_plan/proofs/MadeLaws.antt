@@ -1,6 +1,6 @@
 -- The nodes that `not`, `exists` and `or` add.
 use Rattle.std.proofs.Common.{◌≡◌, ◌<◌, ◌+◌, ◌*◌, ◌≤◌, ℕ, ℤ, max, zero, suc, inl, inr, ⊎_elim, Bool, true, false, cond, not, ◌&&◌, ◌||◌, List, [], ◌∷◌, ◌++◌, map, refl, ap, sym, ◌∙◌, subst, Option, length, arith}
-use Rattle.std.specs.Prelude.{◌==◌}
+use Rattle.std.specs.Prelude.{◌==◌, slice_get}
 use Rattle.std.proofs.Math.Dec.{eqb-suc-zero}
 use Rattle.std.specs.declared.cmp.Ordering.{Ordering}
 use Rattle.std.specs.List.{list_any, list_all, flat_map}
@@ -40,7 +40,8 @@ use Rattle.dbn_network.specs.States.{State, Fits, with_node}
 use Rattle.dbn_plan.specs.Meaning.{Means, LooksAt, vars_of}
 use Rattle.dbn_plan.specs.Columns.{with_vars}
 use Rattle.dbn_plan.specs.Compiled.{World, Stands, Fit}
-use Rattle.dbn_plan.specs.Making.{IsOpen, Grown, Placed, Labels, Made, Shown, NoneMade, RoomMade, SomeMade, WithVars, rate}
+use Rattle.dbn_plan.specs.Making.{IsOpen, Grown, Placed, Labels, Made, Shown, NoneMade, RoomMade, SomeMade, WithVars, IsUnion, rate}
+use Rattle.dbn_plan.proofs.Places.{there_last}
 use Rattle.dbn_plan.proofs.NodeLaws.{union_means, means_alike}
 use Rattle.dbn_plan.proofs.FormulaLaws.{stands_later, stands_from, stands_inside, not_means, not_fit, some_fit, some_shown, and_either}
 use Rattle.dbn_plan.proofs.StepLaws.{grown_then, placed_after, grown_at, one_more_node, placed_at, val_at, val_grown, rate_enough}
@@ -276,6 +277,11 @@ module _ {C : Type 0} (R : C → C → Ordering) (int_of : C → Option ℤ) whe
   pub record OrSoFar (cell_of : Value → Option C) (consts : List Value) (all fs : List Formula) (old new : State C) (i : ℕ) (labels : List Term) (made : ℕ) (wanted : List Term) : Type 0 where
     pub ready : IsOpen new
     pub some : SomeMade R int_of cell_of consts all fs old new i labels made wanted
+    pub union : 1 < length fs → IsUnion new made
+
+pub union_kept : {C : Type 0} (old new : State C) (left right made : ℕ) → new ≡ with_node old (node.Union left right) → made ≡ length old.nodes → IsUnion new made
+union_kept {C} old new left right made e_new e_made =
+    (left, right, ap (λ k. slice_get new.nodes k) e_made ∙ ap (λ (s : State C). slice_get s.nodes (length old.nodes)) e_new ∙ there_last old.nodes (node.Union left right))
 
 pub union_fits : {C : Type 0} (s : State C) (i : ℕ) (labels : List Term) (j : ℕ) → Placed s i labels → Placed s j labels → Fits s (node.Union i j)
 union_fits s i labels j left right = record { left = left.there; right = right.there; names = left.wide ∙ sym right.wide }

@@ -1,32 +1,31 @@
--- A closed formula that says: for some values the first part holds, and the second part, which is solved by itself, doesn't. Its rows are the
+-- A closed formula that says: for some values the first parts hold, and the last one, which is solved by itself, doesn't. Its rows are the
 -- difference of two projections, to the variables of the second part.
-use Rattle.std.proofs.Common.{◌≡◌, ◌<◌, ◌+◌, ◌*◌, ◌≤◌, ℕ, ℤ, zero, suc, max, ◌⊎◌, inl, inr, ⊎_elim, Bool, true, false, not, ◌&&◌, ◌||◌, List, [], ◌∷◌, ◌++◌, map, refl, ap, sym, ◌∙◌, subst, Option, Some, length, arith}
+use Rattle.std.proofs.Common.{◌≡◌, ◌+◌, ◌*◌, ◌≤◌, ℕ, ℤ, zero, suc, max, inl, ⊎_elim, Bool, true, not, ◌&&◌, ◌||◌, List, [], ◌∷◌, refl, ap, sym, ◌∙◌, subst, Option, Some, length, arith}
 use Rattle.std.specs.Prelude.{slice_get}
 use Rattle.std.specs.declared.cmp.Ordering.{Ordering}
-use Rattle.std.specs.List.{list_all, flat_map}
-use Rattle.std.proofs.lemmas.Bool.{true≢false, and_parts, and_from}
+use Rattle.std.specs.List.{list_all}
+use Rattle.std.proofs.lemmas.Bool.{and_parts, and_from}
 use Rattle.dbn_value.specs.Members.{In}
-use Rattle.dbn_value.proofs.MemberLaws.{all_at, in_append, append_left, append_right, in_flat, flat_in}
+use Rattle.dbn_value.proofs.MemberLaws.{append_right, in_flat, flat_in}
 use Rattle.dbn_value.specs.declared.value.Value.{Value}
 use Rattle.dbn_value.specs.declared.term.Var.{Var}
 use Rattle.dbn_value.specs.declared.term.Term.{Term}
-use Rattle.dbn_formula.specs.Variables.{TypedVars, is_in, binds, firsts}
-use Rattle.dbn_formula.specs.Holds.{Env, Agree, lookup, holds_over}
+use Rattle.dbn_formula.specs.Variables.{TypedVars, is_in, firsts}
+use Rattle.dbn_formula.specs.Holds.{Env, Agree, holds_over}
 use Rattle.dbn_formula.specs.Free.{occurrences, variable_of}
-use Rattle.dbn_formula.specs.Safe.{safe_in_order, in_turn, as_level, all_in}
+use Rattle.dbn_formula.specs.Safe.{safe_in_order}
 use Rattle.dbn_formula.specs.Size.{size}
 use Rattle.dbn_formula.specs.Solve.{is_empty}
 use Rattle.dbn_formula.specs.Typing.{Shapes, entered}
 use Rattle.dbn_formula.specs.Ready.{AreValued}
 use Rattle.dbn_formula.specs.declared.formula.Formula.{Formula}
-use Rattle.dbn_formula.specs.declared.formula.Formula.TheVariants.{Atom, And, Not, Exists}
-use Rattle.dbn_formula.proofs.HoldsLaws.{holds_and, holds_not, holds_exists}
-use Rattle.dbn_formula.proofs.FreeLaws.{occurrences_and, occurrences_not}
-use Rattle.dbn_formula.proofs.SizeLaws.{size_and, size_not, size_exists}
-use Rattle.dbn_formula.proofs.SafeLaws.{in_order_and, in_order_atom, in_order_not, in_order_exists}
+use Rattle.dbn_formula.specs.declared.formula.Formula.TheVariants.{Atom, And, Exists}
+use Rattle.dbn_formula.proofs.HoldsLaws.{holds_exists}
+use Rattle.dbn_formula.proofs.SizeLaws.{size_exists}
+use Rattle.dbn_formula.proofs.SafeLaws.{in_order_atom, in_order_exists}
 use Rattle.dbn_formula.proofs.Depends.{depends}
 use Rattle.dbn_formula.proofs.Choices.{choice_out}
-use Rattle.dbn_formula.proofs.VariableLaws.{in_of_is, in_firsts, firsts_in}
+use Rattle.dbn_formula.proofs.VariableLaws.{in_firsts, firsts_in}
 use Rattle.dbn_formula.proofs.Arranged.{alike_self}
 use Rattle.dbn_nodes.specs.declared.node.Node.TheVariants as node
 use Rattle.dbn_network.specs.Values.{val}
@@ -40,51 +39,43 @@ use Rattle.dbn_plan.specs.Referring.{lacking, Difference}
 use Rattle.dbn_plan.proofs.Places.{there_small}
 use Rattle.dbn_plan.proofs.NodeLaws.{diff_means}
 use Rattle.dbn_plan.proofs.DrawnLaws.{Drawn, drawn}
-use Rattle.dbn_plan.proofs.FormulaLaws.{all_fit, first_fit, rest_fit, not_fit, some_fit, some_from, room_is, room_chosen}
-use Rattle.dbn_plan.proofs.StepLaws.{grown_then, grown_at, one_more_node, placed_at, placed_after, val_at, val_grown, first_safe}
+use Rattle.dbn_plan.proofs.FormulaLaws.{not_fit, some_fit, some_from, room_is, room_chosen}
+use Rattle.dbn_plan.proofs.SplitLaws.{lacking_size, lacking_from, lacking_sides, lacking_fit, within_left, first_ready, second_within, second_ready}
+use Rattle.dbn_plan.proofs.StepLaws.{grown_then, grown_at, one_more_node, placed_at, placed_after, val_at, val_grown}
 use Rattle.dbn_plan.proofs.MadeLaws.{stands_grown, var_label}
-use Rattle.dbn_plan.proofs.FormsReady.{and_ready, not_ready, exists_ready}
+use Rattle.dbn_plan.proofs.FormsReady.{exists_ready}
 use Rattle.dbn_plan.proofs.TopLaws.{unit_stands}
 
-pub lacking_size : (left right : Formula) → size (lacking left right) ≡ 2 + size left + size right
-lacking_size left right = let outer = size_and (left ∷ Not right ∷ []) in let inner = size_not right in omega (arith, outer, inner)
-
-referring_count : (r old one two five new k s l b whole : ℕ) → one + 4 ≤ old + r * l → two + 4 ≤ one + r * b → five ≤ two + 3 → new + 10 * k ≤ five + r * k → s ≡ 2 + l + b → whole ≡ max 1 k + s → new + 2 ≤ old + r * whole
+referring_count : (r old one two five new k s l b whole : ℕ) → one + 4 ≤ old + r * l → two + 4 ≤ one + r * b → five ≤ two + 3 → new + 10 * k ≤ five + r * k → s ≡ 1 + l + b → whole ≡ max 1 k + s → new + 2 ≤ old + r * whole
 referring_count r old one two five new zero s l b whole first second less room sum all =
     let most : max 1 0 ≡ 1 = omega arith in
-    let is : r * whole ≡ r * (1 + (2 + l + b)) = ap (λ n. r * n) (all ∙ ap (λ n. n + s) most ∙ ap (λ n. 1 + n) sum) in
+    let is : r * whole ≡ r * (1 + (1 + l + b)) = ap (λ n. r * n) (all ∙ ap (λ n. n + s) most ∙ ap (λ n. 1 + n) sum) in
     omega (arith, first, second, less, room, is)
 referring_count r old one two five new (suc k) s l b whole first second less room sum all =
     let most : max 1 (suc k) ≡ suc k = omega arith in
-    let is : r * whole ≡ r * (suc k + (2 + l + b)) = ap (λ n. r * n) (all ∙ ap (λ n. n + s) most ∙ ap (λ n. suc k + n) sum) in
+    let is : r * whole ≡ r * (suc k + (1 + l + b)) = ap (λ n. r * n) (all ∙ ap (λ n. n + s) most ∙ ap (λ n. suc k + n) sum) in
     omega (arith, first, second, less, room, is)
 
 -- the variables of labels that are there
 vars_within : (wanted labels : List Term) → ((a : Term) → In a wanted → In a labels) → (x : Var) → In x (vars_of wanted) → In x (vars_of labels)
 vars_within wanted labels within x at = let found = in_flat variable_of x wanted at in flat_in variable_of x found.0 labels (within found.0 found.1) found.2
 
--- the variables of both parts are those of the first
-pub within_left : (left right : Formula) → ((x : Var) → In x (occurrences right) → In x (occurrences left)) → (x : Var) → In x (occurrences (lacking left right)) → In x (occurrences left)
-within_left left right within x at =
-    ⊎_elim (λ here. here) (λ there. ⊎_elim (λ not_one. within x (subst (In x) (occurrences_not right) not_one)) (λ none. absurd none) (in_append x (occurrences (Not right)) [] there))
-    (in_append x (occurrences left) (occurrences (Not right) ++ []) (subst (In x) (occurrences_and (left ∷ Not right ∷ [])) at))
-
 module _ {C : Type 0} {R : C → C → Ordering} {int_of : C → Option ℤ} (cell_of : Value → Option C) where
   -- what the difference of the two projections says, in one world
-  module _ (consts : List Value) (rels : Shapes) (w : World R int_of cell_of consts rels) (vars scope : TypedVars) (left right : Formula) where
+  module _ (consts : List Value) (rels : Shapes) (w : World R int_of cell_of consts rels) (vars scope : TypedVars) (front : List Formula) (right : Formula) where
     abbrev Both : List (List C) → List Term → Type 0
-    Both rows wanted = Says w.K rows wanted (λ t. holds_over w.dom w.db (Exists vars (lacking left right)) t) (occurrences (Exists vars (lacking left right)))
+    Both rows wanted = Says w.K rows wanted (λ t. holds_over w.dom w.db (Exists vars (lacking front right)) t) (occurrences (Exists vars (lacking front right)))
 
     abbrev room : Bool
-    room = list_all (λ y. is_in y.0 (occurrences (lacking left right)) || not (is_empty (w.dom y.1))) vars
+    room = list_all (λ y. is_in y.0 (occurrences (lacking front right)) || not (is_empty (w.dom y.1))) vars
 
-    pub lacking_says : (rows : List (List C)) (wanted : List Term) (d : Drawn (vars_of wanted) (λ t. true && holds_over w.dom w.db left t))
-        → Fit consts rels (Exists vars (lacking left right)) scope [] → occurrences (Exists vars (lacking left right)) ≡ []
-        → ((x : Var) → In x (occurrences right) → In x (vars_of wanted)) → ((x : Var) → In x (occurrences right) → In x (occurrences left))
-        → ((t : Env) → (true && holds_over w.dom w.db left t) ≡ true → AreValued w.dom (entered vars scope) (occurrences left) t)
+    pub lacking_says : (rows : List (List C)) (wanted : List Term) (d : Drawn (vars_of wanted) (λ t. true && holds_over w.dom w.db (And front) t))
+        → Fit consts rels (Exists vars (lacking front right)) scope [] → occurrences (Exists vars (lacking front right)) ≡ []
+        → ((x : Var) → In x (occurrences right) → In x (vars_of wanted)) → ((x : Var) → In x (occurrences right) → In x (occurrences (And front)))
+        → ((t : Env) → (true && holds_over w.dom w.db (And front) t) ≡ true → AreValued w.dom (entered vars scope) (occurrences (And front)) t)
         → Means w.K rows wanted (λ t. (d.test t && not (true && holds_over w.dom w.db right t)) && room) → Both rows wanted
     lacking_says rows wanted d fit closed shows within valued means =
-        let f : Formula = lacking left right in
+        let f : Formula = lacking front right in
         let fits = some_fit w vars f scope [] fit in
         let same : (s t : Env) → Agree (vars_of wanted) s t → holds_over w.dom w.db right s ≡ holds_over w.dom w.db right t = λ s t agree. depends w.dom w.db right s t (λ x at. agree x (shows x at)) in
         record {
@@ -96,58 +87,54 @@ module _ {C : Type 0} {R : C → C → Ordering} {int_of : C → Option ℤ} (ce
               let from = d.back t inner.0 in
               let s : Env = from.0 in
               let none : not (holds_over w.dom w.db right s) ≡ true = ap not (same s t from.1) ∙ inner.1 in
-              let body : holds_over w.dom w.db f s ≡ true =
-              holds_and w.dom w.db (left ∷ Not right ∷ []) s ∙ and_from (holds_over w.dom w.db left s) (holds_over w.dom w.db (Not right) s && true) from.2
-              (and_from (holds_over w.dom w.db (Not right) s) true (holds_not w.dom w.db right s ∙ none) refl) in
+              let body : holds_over w.dom w.db f s ≡ true = lacking_from front right w.dom w.db s from.2 none in
               let values = valued s from.2 in
               depends w.dom w.db (Exists vars f) t s (λ x at. absurd (subst (In x) closed at))
-              ∙ some_from w vars scope f s fits.2 (record { each = λ x at. values.each x (within_left left right within x at) }) (room_is w vars f outer.1) body;
+              ∙ some_from w vars scope f s fits.2 (record { each = λ x at. values.each x (within_left front right within x at) }) (room_is w vars f outer.1) body;
           back = λ t e.
               let choice = choice_out w.dom vars scope (holds_over w.dom w.db f) t (sym (holds_exists w.dom w.db vars f t) ∙ e) in
               let s : Env = choice.0 in
-              let parts = and_parts (holds_over w.dom w.db left s) (holds_over w.dom w.db (Not right) s && true) (sym (holds_and w.dom w.db (left ∷ Not right ∷ []) s) ∙ choice.1.passes) in
-              let none : not (holds_over w.dom w.db right s) ≡ true = sym (holds_not w.dom w.db right s) ∙ (and_parts (holds_over w.dom w.db (Not right) s) true parts.1).0 in (
+              let sides = lacking_sides front right w.dom w.db s choice.1.passes in (
                 s,
                 (λ x at. absurd (subst (In x) closed at)),
                 and_from (d.test s && not (true && holds_over w.dom w.db right s)) room
-                    (and_from (d.test s) (not (true && holds_over w.dom w.db right s)) (d.there s parts.0) none)
+                    (and_from (d.test s) (not (true && holds_over w.dom w.db right s)) (d.there s sides.0) sides.1)
                     (room_chosen w vars scope f s fits.2 choice.1.theirs),
               );
         }
 
-  pub referring_made : (consts : List Value) (vars : TypedVars) (left right : Formula) (old one two five new : State C) (sources : Sources) (i : ℕ) (labels : List Term) (l : ℕ) (l_labels : List Term) (r : ℕ) (r_labels : List Term)
-      (made full : ℕ) (wanted : List Term) → AreSources old sources → i ≡ sources.unit → labels ≡ [] → safe_in_order right [] ≡ true → occurrences (Exists vars (lacking left right)) ≡ []
-      → Made R int_of cell_of consts left old one i labels l l_labels → Made R int_of cell_of consts right one two i labels r r_labels
+  pub referring_made : (consts : List Value) (vars : TypedVars) (front : List Formula) (right : Formula) (old one two five new : State C) (sources : Sources) (i : ℕ) (labels : List Term) (l : ℕ) (l_labels : List Term) (r : ℕ) (r_labels : List Term)
+      (made full : ℕ) (wanted : List Term) → AreSources old sources → i ≡ sources.unit → labels ≡ [] → safe_in_order right [] ≡ true → occurrences (Exists vars (lacking front right)) ≡ []
+      → Made R int_of cell_of consts (And front) old one i labels l l_labels → Made R int_of cell_of consts right one two i labels r r_labels
       → WithVars (firsts (occurrences right)) labels wanted → ((a : Term) → In a wanted → In a l_labels)
-      → Difference R int_of two five l l_labels r r_labels made wanted → RoomMade R int_of cell_of consts vars (lacking left right) five new made wanted full
-      → Rooted R int_of cell_of consts (Exists vars (lacking left right)) old new full wanted
-  referring_made consts vars left right old one two five new sources i labels l l_labels r r_labels made full wanted are e_i e_labels alone closed first second own in_left less room =
+      → Difference R int_of two five l l_labels r r_labels made wanted → RoomMade R int_of cell_of consts vars (lacking front right) five new made wanted full
+      → Rooted R int_of cell_of consts (Exists vars (lacking front right)) old new full wanted
+  referring_made consts vars front right old one two five new sources i labels l l_labels r r_labels made full wanted are e_i e_labels alone closed first second own in_left less room =
       let to_two : Grown old two = grown_then old one two first.grown second.grown in
       let to_five : Grown old five = grown_then old two five to_two less.grown in
-      let f : Formula = lacking left right in
+      let f : Formula = lacking front right in
       let unit : slice_get old.nodes i ≡ Some node.Unit = subst (λ k. slice_get old.nodes k ≡ Some node.Unit) (sym e_i) are.unit in
       record {
         grown = grown_then old five new to_five room.grown;
         few =
-            referring_count (rate old.rels) (length old.nodes) (length one.nodes) (length two.nodes) (length five.nodes) (length new.nodes) (length vars) (size f) (size left) (size right) (size (Exists vars f))
+            referring_count (rate old.rels) (length old.nodes) (length one.nodes) (length two.nodes) (length five.nodes) (length new.nodes) (length vars) (size f) (size (And front)) (size right) (size (Exists vars f))
             first.few (subst (λ rs. length two.nodes + 4 ≤ length one.nodes + rate rs * size right) first.grown.rels second.few) less.few
-            (subst (λ rs. length new.nodes + 10 * length vars ≤ length five.nodes + rate rs * length vars) to_five.rels room.few) (lacking_size left right) (size_exists vars f);
+            (subst (λ rs. length new.nodes + 10 * length vars ≤ length five.nodes + rate rs * length vars) to_five.rels room.few) (lacking_size front right) (size_exists vars f);
         placed = room.placed;
         columns = λ x at. absurd (subst (In x) closed at);
         says = λ w scope fit.
             let fits = some_fit w vars f scope [] fit in
             let inner : TypedVars = entered vars scope in
-            let all = all_fit consts old.rels (left ∷ Not right ∷ []) inner [] fits.0 in
-            let fit_left : Fit consts old.rels left inner (vars_of labels) = subst (λ ls. Fit consts old.rels left inner (vars_of ls)) (sym e_labels) (first_fit consts old.rels left (Not right ∷ []) inner [] all) in
-            let behind = first_fit consts old.rels (Not right) [] inner (occurrences left) (rest_fit consts old.rels left (Not right ∷ []) inner [] (occurrences left) (alike_self (occurrences left)) all) in
-            let nots = not_fit w right inner (occurrences left) behind in
+            let split = lacking_fit front right consts old.rels inner [] (occurrences (And front)) (alike_self (occurrences (And front))) fits.0 in
+            let fit_left : Fit consts old.rels (And front) inner (vars_of labels) = subst (λ ls. Fit consts old.rels (And front) inner (vars_of ls)) (sym e_labels) split.0 in
+            let nots = not_fit w right inner (occurrences (And front)) split.1 in
             let own_fit : Fit consts old.rels right inner [] = record { safe_here = alone; typed = nots.0.typed; once = nots.0.once; scoped = nots.0.scoped; written = nots.0.written } in
             let fit_right : Fit consts old.rels right inner (vars_of labels) = subst (λ ls. Fit consts old.rels right inner (vars_of ls)) (sym e_labels) own_fit in
             let start : Stands R int_of w old.nodes i labels inner (λ t. true) = unit_stands cell_of consts old sources i labels inner are e_i e_labels w in
             let lefts = first.compiled w inner (λ t. true) fit_left start in
             let rights = (subst (λ rs. Compiled R int_of cell_of consts rs right one.nodes i labels two.nodes r r_labels) first.grown.rels second.compiled) w inner (λ t. true) fit_right
             (stands_grown old.rels w old one i labels inner (λ t. true) first.grown (there_small old.nodes i node.Unit unit) start) in
-            let p : Env → Bool = λ t. true && holds_over w.dom w.db left t in
+            let p : Env → Bool = λ t. true && holds_over w.dom w.db (And front) t in
             let q : Env → Bool = λ t. true && holds_over w.dom w.db right t in
             let left_two : Means w.K (val R l two.nodes w.feeds) l_labels p = subst (λ rows. Means w.K rows l_labels p) (sym (val_grown R w.feeds one two l second.grown first.placed.there)) lefts.means in
             let shows : (x : Var) → In x (occurrences right) → In x (vars_of wanted) = λ x at. own.labelled.bound.back x (append_right x (vars_of labels) (firsts (occurrences right)) (firsts_in x (occurrences right) at)) in
@@ -157,8 +144,8 @@ module _ {C : Type 0} {R : C → C → Ordering} {int_of : C → Option ℤ} (ce
             let full_rows = (subst (λ rs. (v : World R int_of cell_of consts rs) (u : Env → Bool) → LooksAt (vars_of wanted) u → Means v.K (val R made five.nodes v.feeds) wanted u
             → Means v.K (val R full new.nodes v.feeds) wanted (λ t. u t && list_all (λ y. is_in y.0 (occurrences f) || not (is_empty (v.dom y.1))) vars)) to_five.rels room.means)
             w (λ t. d.test t && not (q t)) (λ s t agree. ap (λ b. b && not (q s)) (d.looks s t agree) ∙ ap (λ b. d.test t && not b) (looks s t agree)) rows in
-            lacking_says consts old.rels w vars scope left right (val R full new.nodes w.feeds) wanted d fit closed shows nots.1
-            (λ t e. let valued = lefts.valued t e in record { each = λ x at. valued.each x (first.labelled.bound.back x (append_right x (vars_of labels) (occurrences left) at)) })
+            lacking_says consts old.rels w vars scope front right (val R full new.nodes w.feeds) wanted d fit closed shows nots.1
+            (λ t e. let valued = lefts.valued t e in record { each = λ x at. valued.each x (first.labelled.bound.back x (append_right x (vars_of labels) (occurrences (And front)) at)) })
             full_rows;
       }
 
@@ -199,36 +186,18 @@ none_free f vars e none = no_members (occurrences f) (λ x at. absurd (subst (In
 
 -- ---- its parts are ready
 
-module _ {C : Type 0} (cell_of : Value → Option C) (rels : Shapes) (left right : Formula) (ready : IsReady cell_of rels [] (lacking left right)) where
-  parts_turn : in_turn (map as_level (left ∷ Not right ∷ [])) [] ≡ true
-  parts_turn = sym (in_order_and (left ∷ Not right ∷ []) []) ∙ ready.safe
+module _ {C : Type 0} (cell_of : Value → Option C) (rels : Shapes) (vars : TypedVars) (front : List Formula) (right : Formula) (ready : IsReady cell_of rels [] (Exists vars (lacking front right))) where
+  body_ready : IsReady cell_of rels [] (lacking front right)
+  body_ready = exists_ready cell_of rels [] vars (lacking front right) ready
 
-  pub first_ready : IsReady cell_of rels [] left
-  first_ready = and_ready cell_of rels rels [] [] (left ∷ Not right ∷ []) left (inl refl) refl ready (first_safe left (Not right ∷ []) [] parts_turn)
+  pub left_ready : IsReady cell_of rels [] (And front)
+  left_ready = first_ready front right cell_of rels body_ready
 
-  denied_safe : safe_in_order (Not right) (occurrences left) ≡ true
-  denied_safe = first_safe (Not right) [] (occurrences left) (and_parts (safe_in_order left []) (in_turn (map as_level (Not right ∷ [])) (occurrences left)) parts_turn).1
-
-  pub second_within : (x : Var) → In x (occurrences right) → In x (occurrences left)
-  second_within x at =
-      in_of_is x (occurrences left)
-      (all_at (λ y. is_in y (occurrences left)) x (occurrences right) (and_parts (all_in (occurrences right) (occurrences left)) (safe_in_order right (occurrences left)) (sym (in_order_not right (occurrences left)) ∙ denied_safe)).0 at)
-
-  pub second_ready : IsReady cell_of rels (occurrences left) right
-  second_ready = not_ready cell_of rels (occurrences left) right (and_ready cell_of rels rels [] (occurrences left) (left ∷ Not right ∷ []) (Not right) (inr (inl refl)) refl ready denied_safe)
-
-module _ {C : Type 0} (cell_of : Value → Option C) (rels : Shapes) (vars : TypedVars) (left right : Formula) (ready : IsReady cell_of rels [] (Exists vars (lacking left right))) where
-  body_ready : IsReady cell_of rels [] (lacking left right)
-  body_ready = exists_ready cell_of rels [] vars (lacking left right) ready
-
-  pub left_ready : IsReady cell_of rels [] left
-  left_ready = first_ready cell_of rels left right body_ready
-
-  pub right_within : (x : Var) → In x (occurrences right) → In x (occurrences left)
-  right_within x at = second_within cell_of rels left right body_ready x at
+  pub right_within : (x : Var) → In x (occurrences right) → In x (occurrences (And front))
+  right_within x at = second_within front right cell_of rels body_ready x at
 
   pub right_ready : safe_in_order right [] ≡ true → IsReady cell_of rels [] right
-  right_ready alone = let own = second_ready cell_of rels left right body_ready in record { safe = alone; arity = own.arity; cells = own.cells }
+  right_ready alone = let own = second_ready front right cell_of rels body_ready in record { safe = alone; arity = own.arity; cells = own.cells }
 
 -- the labels of the second part's variables are there behind a part that has them
 pub wanted_in : (f g : Formula) (labels wanted inner : List Term) → ((x : Var) → In x (occurrences g) → In x (occurrences f)) → WithVars (firsts (occurrences g)) labels wanted → Labels (occurrences f) labels inner

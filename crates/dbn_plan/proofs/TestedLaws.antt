@@ -1,5 +1,5 @@
 -- What the tests owe of their queries and networks.
-use Rattle.std.proofs.Common.{◌≡◌, ◌<◌, ◌≤◌, ◌+◌, ℕ, Bool, true, false, not, List, [], ◌∷◌, ◌++◌, map, refl, ap, sym, ◌∙◌, subst, length, arith}
+use Rattle.std.proofs.Common.{◌≡◌, ◌<◌, ◌≤◌, ℕ, Bool, true, false, not, List, [], ◌∷◌, ◌++◌, map, refl, ap, sym, ◌∙◌, subst, length, arith}
 use Rattle.std.specs.Prelude.{slice_index_or}
 use Rattle.std.specs.declared.cmp.Ordering.{Ordering}
 use Rattle.std.specs.Cmp.Lexicographic.{slice_cmp}
@@ -14,7 +14,7 @@ use Rattle.dbn_network.specs.Values.{val}
 use Rattle.dbn_network.specs.States.{State, with_node, with_feeds, change_at}
 use Rattle.dbn_plan.specs.Making.{IsOpen, Grown}
 use Rattle.dbn_plan.specs.Tested.{IsTested}
-use Rattle.dbn_plan.proofs.StepLaws.{grown_at, one_more_node}
+use Rattle.dbn_plan.proofs.StepLaws.{grown_at}
 use Rattle.dbn_plan.proofs.AtomMade.{scan_made, scan_rows}
 
 append_nil : {A : Type 0} (xs : List A) → xs ++ [] ≡ xs

@@ -34,14 +34,13 @@ use Rattle.dbn_formula.proofs.NoFault.{no_fault}
 use Rattle.dbn_formula.specs.Size.{size}
 use Rattle.std.proofs.Math.Nat.{mul-le-mul_left}
 use Rattle.dbn_formula.proofs.VariableLaws.{type_same, type_itself, in_bound}
-use Rattle.dbn_nodes.specs.declared.node.Node.{Node}
 use Rattle.dbn_network.specs.Values.{val}
 use Rattle.dbn_plan.specs.Meaning.{Holds, Means, LooksAt, vars_of}
 use Rattle.dbn_plan.specs.Compiled.{World, Stands, Fit}
 use Rattle.dbn_plan.specs.declared.sources.Sources.{Sources}
 use Rattle.dbn_plan.specs.Answering.{SameRows, var_labels, AnswersAt, Ends, Planned, Says, Rooted, Finished, IsWhole}
 use Rattle.dbn_plan.specs.Columns.{HaveCells}
-use Rattle.dbn_plan.specs.Making.{IsOpen, Grown, Placed, Made, Shown, Selected, Joined, ScanMade, RoomMade, IsReady, IsProjection, Sourced, AreSources, AreScans, ScansMade, columns, rate}
+use Rattle.dbn_plan.specs.Making.{IsOpen, Grown, Placed, Made, Selected, Joined, ScanMade, RoomMade, IsReady, IsProjection, Sourced, AreSources, AreScans, ScansMade, columns, rate}
 use Rattle.dbn_plan.proofs.NodeLaws.{unit_means}
 use Rattle.dbn_plan.proofs.MadeLaws.{var_label}
 use Rattle.dbn_plan.proofs.RoomLaws.{unit_placed}
@@ -162,6 +161,13 @@ module _ {C : Type 0} where
 
 -- ---- the columns of the query
 
+-- their variables occur
+pub wanted_occurs : (vars : TypedVars) (form : Formula) (wanted : List Term) → ((x : Var) → binds vars x ≡ true → In x (occurrences form)) → wanted ≡ var_labels vars → (x : Var) → In x (vars_of wanted) → In x (occurrences form)
+wanted_occurs vars form wanted occurring e x here =
+    let found = in_flat variable_of x (var_labels vars) (subst (λ ls. In x (vars_of ls)) e here) in
+    let named = in_map (λ (y : Var × ColType). term.Var y.0) found.0 vars found.1 in
+    ⊎_elim (λ is. occurring x (subst (λ z. binds vars z ≡ true) (sym is) (in_bound vars named.0 named.1))) (λ none. absurd none) (subst (λ a. In x (variable_of a)) named.2 found.2)
+
 module _ {C : Type 0} {R : C → C → Ordering} {int_of : C → Option ℤ} (cell_of : Value → Option C) where
   pub planned_answers : (rels : Shapes) (vars : TypedVars) (f form : Formula) (old new : State C) (node : ℕ) → AcceptsQuery rels vars f → rels ≡ old.rels → form ≡ solvable f
       → Planned R int_of cell_of form vars old new node → AnswersAt R int_of cell_of new.rels f vars new.nodes node
@@ -196,14 +202,8 @@ module _ {C : Type 0} {R : C → C → Ordering} {int_of : C → Option ℤ} (ce
         w vars fit in
         subst (λ ls. Means w.K (val R node new.nodes w.feeds) ls (λ t. holds_over w.dom w.db form t)) e_wanted
         (done.shown.means w.K w.feeds says.passes (λ t. holds_over w.dom w.db form t) w.coding says.means says.there
-        (λ t e. let from = says.back t e in (from.0, (λ x here. from.1 x (wanted_occurs x here)), from.2)));
+        (λ t e. let from = says.back t e in (from.0, (λ x here. from.1 x (wanted_occurs vars form wanted occurring e_wanted x here)), from.2)));
   }
-    where
-      wanted_occurs : (x : Var) → In x (vars_of wanted) → In x (occurrences form)
-      wanted_occurs x here =
-          let found = in_flat variable_of x (var_labels vars) (subst (λ ls. In x (vars_of ls)) e_wanted here) in
-          let named = in_map (λ (y : Var × ColType). term.Var y.0) found.0 vars found.1 in
-          ⊎_elim (λ is. occurring x (subst (λ z. binds vars z ≡ true) (sym is) (in_bound vars named.0 named.1))) (λ none. absurd none) (subst (λ a. In x (variable_of a)) named.2 found.2)
 
   -- the unit stands for every environment
   pub unit_stands : (consts : List Value) (s : State C) (sources : Sources) (i : ℕ) (labels : List Term) (scope : TypedVars) → AreSources s sources → i ≡ sources.unit → labels ≡ []

@@ -106,6 +106,10 @@ module _ {C : Type 0} where
   abbrev pub IsProjection : State C → ℕ → Type 0
   IsProjection s i = (from : ℕ) × (cols : List ℕ) × (slice_get s.nodes i ≡ Some (node.Project from cols))
 
+  -- a union
+  abbrev pub IsUnion : State C → ℕ → Type 0
+  IsUnion s i = (left right : ℕ) × (slice_get s.nodes i ≡ Some (node.Union left right))
+
 module _ {C : Type 0} (R : C → C → Ordering) where
   -- a node with the rows of another one that meet the tests
   pub record Selected (old new : State C) (node : ℕ) (tests : List (ColTest C)) (made : ℕ) : Type 0 where

@@ -1,5 +1,5 @@
--- A body that says: the first part holds, and the second part, which is solved by itself, doesn't. So a foreign key is denied.
-use Rattle.std.specs.Prelude.{◌≡◌, ◌≤◌, ◌+◌, ◌⊎◌, ℕ, ℤ, Bool, true, not, ◌&&◌, List, [], ◌∷◌, length, Option, Some, slice_get}
+-- A conjunction whose last part is denied. So a foreign key is denied, where that part is solved by itself.
+use Rattle.std.specs.Prelude.{◌≡◌, ◌≤◌, ◌+◌, ◌⊎◌, ℕ, ℤ, Bool, true, not, ◌&&◌, List, [], ◌∷◌, ◌++◌, length, Option, Some, slice_get}
 use Rattle.std.specs.declared.cmp.Ordering.{Ordering}
 use Rattle.dbn_value.specs.Coding.{IsCoding}
 use Rattle.dbn_value.specs.declared.value.Value.{Value}
@@ -18,8 +18,9 @@ use Rattle.dbn_network.specs.States.{State}
 use Rattle.dbn_plan.specs.Meaning.{Means, LooksAt, vars_of}
 use Rattle.dbn_plan.specs.Making.{Grown, Placed, Made}
 
-abbrev pub lacking : Formula → Formula → Formula
-lacking left right = And (left ∷ Not right ∷ [])
+-- these parts hold, and the last one doesn't
+abbrev pub lacking : List Formula → Formula → Formula
+lacking front right = And (front ++ Not right ∷ [])
 
 -- the formula is solved by itself, with a column for each of these variables
 pub record IsSolved (f : Formula) (vars : TypedVars) : Type 0 where
@@ -30,8 +31,8 @@ pub record IsSolved (f : Formula) (vars : TypedVars) : Type 0 where
 abbrev pub IsDifference : {C : Type 0} → State C → ℕ → Type 0
 IsDifference s i = (left right : ℕ) × (slice_get s.nodes i ≡ Some (node.Diff left right))
 
-pub record IsLacking (body left right : Formula) : Type 0 where
-  pub is : body ≡ lacking left right
+pub record IsLacking (body : Formula) (front : List Formula) (right : Formula) : Type 0 where
+  pub is : body ≡ lacking front right
   pub alone : safe_in_order right [] ≡ true
 
 -- a node over these labels: the rows that come from one node, and not from the other
@@ -43,7 +44,7 @@ pub record Difference {C : Type 0} (R : C → C → Ordering) (int_of : C → Op
       → ((t : Env) → p t ≡ true → q t ≡ true) → ((t : Env) → q t ≡ true → (s : Env) × Agree (vars_of wanted) s t × (p s ≡ true)) → LooksAt (vars_of wanted) r
       → Means K (val R made new.nodes feeds) wanted (λ t. q t && not (r t))
 
--- a part that is denied: by itself behind the unit, or behind the part before it
+-- a part that is denied: by itself behind the unit, or behind the parts before it
 abbrev pub DeniedMade : {C : Type 0} (R : C → C → Ordering) (int_of : C → Option ℤ) → (Value → Option C) → List Value → Formula → TypedVars → State C → State C → ℕ → List Term → ℕ → List Term → ℕ → List Term → Type 0
 DeniedMade R int_of cell_of consts right vars old new unit unit_labels first first_labels made made_labels =
     (IsSolved right vars × Made R int_of cell_of consts right old new unit unit_labels made made_labels) ⊎ Made R int_of cell_of consts right old new first first_labels made made_labels

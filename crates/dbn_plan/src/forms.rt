@@ -4,7 +4,7 @@ ghost use Rattle.dbn_value.specs.Members.{In};
 ghost use Rattle.dbn_formula.specs.Free.{occurrences};
 ghost use Rattle.dbn_formula.specs.declared.formula.Formula.{Formula};
 ghost use Rattle.dbn_plan.specs.Meaning.{vars_of};
-ghost use Rattle.dbn_plan.specs.Making.{IsOpen, Placed, AreSources, IsReady, Made, SomeMade, WithVars};
+ghost use Rattle.dbn_plan.specs.Making.{IsOpen, Placed, AreSources, IsReady, IsUnion, Made, SomeMade, WithVars};
 
 use super::atom::atom;
 use super::comparison::comparison;
@@ -53,7 +53,7 @@ pub(crate) fn compile_at<P: Coder>(
 
 /// One part behind the other.
 #[cycle(compiled)]
-fn all_parts<P: Coder>(
+pub(crate) fn all_parts<P: Coder>(
     alloc: Global,
     parts: &[Formula],
     at: &Context,
@@ -164,9 +164,9 @@ fn some_part<P: Coder>(
     Ok(Context { node, labels })
 }
 
-/// The rows of all parts, over the same labels.
+/// The rows of all parts, over the same labels: of two or more a union.
 #[cycle(compiled)]
-fn any_of<P: Coder>(
+pub(crate) fn any_of<P: Coder>(
     alloc: Global,
     parts: &[Formula],
     at: &Context,
@@ -181,7 +181,8 @@ fn any_of<P: Coder>(
     requires ready { IsReady (P.cell_of coder.now) network.old.rels (vars_of at.now.labels) (Formula.Or parts.now) }
     requires labels { WithVars (flat_map occurrences parts.now) at.now.labels wanted.now }
     requires some { 0 < length parts.now }
-    ensures { IfOk result (λ made. SomeMade P.Cell.cmp P.Cell.int_of (P.cell_of coder.now) sources.now.consts parts.now parts.now network.old network.new at.now.node at.now.labels made wanted.now) }
+    ensures made { IfOk result (λ made. SomeMade P.Cell.cmp P.Cell.int_of (P.cell_of coder.now) sources.now.consts parts.now parts.now network.old network.new at.now.node at.now.labels made wanted.now) }
+    ensures kept { IfOk result (λ made. 1 < length parts.now → IsUnion network.new made) }
 {
     let mut made = one_of(alloc, parts, &parts[0], at, wanted, sources, coder, network)?;
     for i in 1..parts.len() {

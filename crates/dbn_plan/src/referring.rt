@@ -1,4 +1,4 @@
-ghost use Rattle.std.specs.Prelude.{◌≡◌, true, List, [], IfOk, IfSome, IsTrue};
+ghost use Rattle.std.specs.Prelude.{◌≡◌, ◌++◌, ◌∷◌, true, List, [], IfOk, IfSome, IsTrue};
 ghost use Rattle.std.specs.List.{list_all};
 ghost use Rattle.dbn_value.specs.Members.{In};
 ghost use Rattle.dbn_value.specs.declared.term.Var.{Var as OfVar};
@@ -13,7 +13,7 @@ ghost use Rattle.dbn_plan.specs.Answering.{Rooted, Finished, var_labels};
 ghost use Rattle.dbn_plan.specs.Referring.{lacking, IsLacking, IsSolved, IsDifference, Difference, DeniedMade};
 
 use super::context::Context;
-use super::forms::compile_at;
+use super::forms::{all_parts, compile_at};
 use super::labels::labels_behind;
 use super::room::{is_among, with_room};
 use super::sources::Sources;
@@ -46,45 +46,55 @@ fn is_plain(f: &Formula) -> bool
     }
 }
 
-/// The parts of a formula that says: the first one holds, and the second one doesn't.
-pub(crate) fn denied_parts(form: &Formula) -> Option<(&Formula, &Formula)>
+/// Of a conjunction whose last part is denied the parts before it, and what is denied.
+pub(crate) fn denied_parts(form: &Formula) -> Option<(&[Formula], &Formula)>
     ensures { IfSome result (λ p. form.now ≡ lacking p.0.now p.1.now) }
 {
     match form {
-        Formula::And(parts) => two_parts(parts.as_slice()),
+        Formula::And(parts) => last_denied(parts.as_slice()),
         _ => None,
     }
 }
 
 /// The same of the parts of an `and`.
-fn two_parts(parts: &[Formula]) -> Option<(&Formula, &Formula)>
+fn last_denied(parts: &[Formula]) -> Option<(&[Formula], &Formula)>
     ensures { IfSome result (λ p. Formula.And parts.now ≡ lacking p.0.now p.1.now) }
 {
-    if parts.len() != 2 {
-        return None;
+    match parts.split_last() {
+        Some((last, front)) => denied_behind(front, last),
+        None => None,
     }
-    match &parts[1] {
-        Formula::Not(right) => Some((&parts[0], right.get())),
+}
+
+/// The same of the last part and those before it.
+fn denied_behind<'x>(
+    front: &'x [Formula],
+    last: &'x Formula,
+) -> Option<(&'x [Formula], &'x Formula)>
+    ensures { IfSome result (λ p. Formula.And (front.now ++ last.now ∷ []) ≡ lacking p.0.now p.1.now) }
+{
+    match last {
+        Formula::Not(right) => Some((front, right.get())),
         _ => None,
     }
 }
 
-/// The same, where the second part is solved by itself.
-pub(crate) fn lacking_parts(body: &Formula) -> Option<(&Formula, &Formula)>
+/// The same, where the last part denies what is solved by itself.
+pub(crate) fn lacking_parts(body: &Formula) -> Option<(&[Formula], &Formula)>
     ensures { IfSome result (λ p. IsLacking body.now p.0.now p.1.now) }
 {
     match denied_parts(body) {
-        Some((left, right)) => plain_parts(left, right),
+        Some((front, right)) => plain_parts(front, right),
         None => None,
     }
 }
 
 /// The two, where the second one is solved by itself.
-fn plain_parts<'x>(left: &'x Formula, right: &'x Formula) -> Option<(&'x Formula, &'x Formula)>
-    ensures { IfSome result (λ p. IsLacking (lacking left.now right.now) p.0.now p.1.now) }
+fn plain_parts<'x>(front: &'x [Formula], right: &'x Formula) -> Option<(&'x [Formula], &'x Formula)>
+    ensures { IfSome result (λ p. IsLacking (lacking front.now right.now) p.0.now p.1.now) }
 {
     if is_plain(right) {
-        Some((left, right))
+        Some((front, right))
     } else {
         None
     }
@@ -98,13 +108,13 @@ pub(crate) fn is_closed(alloc: Global, f: &Formula) -> Result<bool, AllocError>
     Ok(vars.is_empty())
 }
 
-/// The rows behind the unit of `exists` over a body whose first part holds and whose second part, solved by itself, doesn't: what a
-/// projection of the first has and a projection of the second hasn't. No join is kept.
+/// The rows behind the unit of `exists` over a body whose first parts hold and whose last part, solved by itself, doesn't: what a
+/// projection of the first ones has and a projection of the last one hasn't. No join of the two is kept.
 pub(crate) fn difference_rows<P: Coder>(
     alloc: Global,
     vars: &TypedVars,
     body: &Formula,
-    left: &Formula,
+    front: &[Formula],
     right: &Formula,
     unit: &Context,
     sources: &Sources,
@@ -115,12 +125,12 @@ pub(crate) fn difference_rows<P: Coder>(
     requires sources { AreSources network.old sources.now }
     requires unit { unit.now.node ≡ sources.now.unit }
     requires nothing { unit.now.labels ≡ [] }
-    requires parts { IsLacking body.now left.now right.now }
+    requires parts { IsLacking body.now front.now right.now }
     requires ready { IsReady (P.cell_of coder.now) network.old.rels [] (Formula.Exists vars.now body.now) }
     requires closed { occurrences (Formula.Exists vars.now body.now) ≡ [] }
     ensures { IfOk result (λ b. Rooted P.Cell.cmp P.Cell.int_of (P.cell_of coder.now) sources.now.consts (Formula.Exists vars.now body.now) network.old network.new b.node b.labels) }
 {
-    let first = compile_at(alloc, left, unit, sources, coder, network)?;
+    let first = all_parts(alloc, front, unit, sources, coder, network)?;
     let second = compile_at(alloc, right, unit, sources, coder, network)?;
     let wanted = labels_behind(alloc, right, &unit.labels)?;
     let less = difference(alloc, &first, &second, wanted, network)?;
@@ -180,7 +190,7 @@ pub(crate) fn are_among(own: &[Var], vars: &[(Var, ColType)]) -> bool
 }
 
 /// The rows that a part denies: those of the part by itself, where it has a column for each variable of the query, and else those
-/// behind the first part.
+/// behind the first parts.
 fn denied_rows<P: Coder>(
     alloc: Global,
     right: &Formula,
@@ -207,11 +217,11 @@ fn denied_rows<P: Coder>(
     Ok(behind)
 }
 
-/// The rows of a query whose first part holds and whose second part doesn't: what one node has in the order of the variables, and
+/// The rows of a query whose first parts hold and whose last part doesn't: what one node has in the order of the variables, and
 /// another one hasn't.
 pub(crate) fn rows_without<P: Coder>(
     alloc: Global,
-    left: &Formula,
+    front: &[Formula],
     right: &Formula,
     vars: &TypedVars,
     wanted: &Terms,
@@ -221,18 +231,18 @@ pub(crate) fn rows_without<P: Coder>(
 ) -> Result<usize, AllocError>
     requires open { IsOpen network.old }
     requires sources { AreSources network.old sources.now }
-    requires ready { IsReady (P.cell_of coder.now) network.old.rels [] (lacking left.now right.now) }
-    requires occurring { (x : OfVar) → binds vars.now x ≡ true → In x (occurrences (lacking left.now right.now)) }
-    requires bound { (x : OfVar) → In x (occurrences (lacking left.now right.now)) → binds vars.now x ≡ true }
+    requires ready { IsReady (P.cell_of coder.now) network.old.rels [] (lacking front.now right.now) }
+    requires occurring { (x : OfVar) → binds vars.now x ≡ true → In x (occurrences (lacking front.now right.now)) }
+    requires bound { (x : OfVar) → In x (occurrences (lacking front.now right.now)) → binds vars.now x ≡ true }
     requires wanted { wanted.now ≡ var_labels vars.now }
     requires some { wanted.now ≡ [] → ⊥ }
-    ensures { IfOk result (λ node. Finished P.Cell.cmp P.Cell.int_of (P.cell_of coder.now) sources.now.consts (lacking left.now right.now) vars.now network.old network.new node wanted.now) }
+    ensures { IfOk result (λ node. Finished P.Cell.cmp P.Cell.int_of (P.cell_of coder.now) sources.now.consts (lacking front.now right.now) vars.now network.old network.new node wanted.now) }
 {
     let unit = Context {
         node: sources.unit,
         labels: Items::new(alloc),
     };
-    let first = compile_at(alloc, left, &unit, sources, coder, network)?;
+    let first = all_parts(alloc, front, &unit, sources, coder, network)?;
     let second = denied_rows(alloc, right, vars, &unit, &first, sources, coder, network)?;
     let columns = wanted.copy_in(alloc)?;
     let less = difference(alloc, &first, &second, columns, network)?;

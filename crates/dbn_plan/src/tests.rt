@@ -431,7 +431,7 @@ fn each_form_has_its_rows(rt: HostRuntime) -> Result<(), Fail> {
         (0, b"33", &[b"3"]),
         (0, b"43", &[b"3", b"4"]),
     ];
-    assert!(rt; follows(alloc, b"xy", b"0x3 0xx |", b"x", 8, turns)?);
+    assert!(rt; follows(alloc, b"xy", b"0x3 0xx |", b"x", 7, turns)?);
     let turns: &[Turn] = &[(0, b"21", &[]), (0, b"12", &[b"12"]), (0, b"17", &[b"12"])];
     assert!(rt; follows(alloc, b"xy", b"0xy <xy & <y7 &", b"xy", 5, turns)?);
     let turns: &[Turn] = &[(0, b"1", &[]), (1, b"2", &[]), (1, b"1", &[b"11"])];

@@ -17,7 +17,7 @@ ghost use Rattle.dbn_plan.specs.Answering.{AnswersAt, Planned, Rooted, Finished,
 
 use super::columns::{same_terms, tests_of};
 use super::context::Context;
-use super::forms::compile_at;
+use super::forms::{any_of, compile_at};
 use super::labels::labels_of;
 use super::referring::{denied_parts, difference_rows, is_closed, lacking_parts, rows_without};
 use super::room::with_room;
@@ -164,7 +164,8 @@ fn is_whole<P: Coder>(
     Ok(tests.is_empty())
 }
 
-/// The formula with its columns in the order of the variables. Where its last part is denied, the columns are put in order before.
+/// The formula with its columns in the order of the variables. Where its last part is denied, or one of several parts holds, the
+/// columns are put in order before.
 fn query_rows<P: Coder>(
     alloc: Global,
     form: &Formula,
@@ -182,12 +183,61 @@ fn query_rows<P: Coder>(
     requires wanted { wanted.now ≡ var_labels vars.now }
     ensures { IfOk result (λ node. Finished P.Cell.cmp P.Cell.int_of (P.cell_of coder.now) sources.now.consts form.now vars.now network.old network.new node wanted.now) }
 {
-    if let Some((left, right)) = denied_parts(form) {
+    if let Some((front, right)) = denied_parts(form) {
         if !wanted.is_empty() {
-            return rows_without(alloc, left, right, vars, wanted, sources, coder, network);
+            return rows_without(alloc, front, right, vars, wanted, sources, coder, network);
         }
     }
+    if let Some(parts) = several_parts(form) {
+        return union_rows(alloc, parts, vars, wanted, sources, coder, network);
+    }
     in_order(alloc, form, vars, wanted, sources, coder, network)
+}
+
+/// The parts of a disjunction of two or more.
+fn several_parts(form: &Formula) -> Option<&[Formula]>
+    ensures is { IfSome result (λ parts. form.now ≡ Formula.Or parts.now) }
+    ensures several { IfSome result (λ parts. 1 < length parts.now) }
+{
+    match form {
+        Formula::Or(parts) => two_or_more(parts.as_slice()),
+        _ => None,
+    }
+}
+
+/// The parts, unless there is one alone or none.
+fn two_or_more(parts: &[Formula]) -> Option<&[Formula]>
+    ensures is { IfSome result (λ some. some.now ≡ parts.now) }
+    ensures several { IfSome result (λ some. 1 < length some.now) }
+{
+    if parts.len() > 1 { Some(parts) } else { None }
+}
+
+/// The rows of the parts of a disjunction, each with its columns in the order of the variables.
+fn union_rows<P: Coder>(
+    alloc: Global,
+    parts: &[Formula],
+    vars: &TypedVars,
+    wanted: &Terms,
+    sources: &Sources,
+    coder: &P,
+    network: &mut Network<P::Cell>,
+) -> Result<usize, AllocError>
+    requires open { IsOpen network.old }
+    requires sources { AreSources network.old sources.now }
+    requires ready { IsReady (P.cell_of coder.now) network.old.rels [] (Formula.Or parts.now) }
+    requires occurring { (x : OfVar) → binds vars.now x ≡ true → In x (occurrences (Formula.Or parts.now)) }
+    requires bound { (x : OfVar) → In x (occurrences (Formula.Or parts.now)) → binds vars.now x ≡ true }
+    requires wanted { wanted.now ≡ var_labels vars.now }
+    requires several { 1 < length parts.now }
+    ensures { IfOk result (λ node. Finished P.Cell.cmp P.Cell.int_of (P.cell_of coder.now) sources.now.consts (Formula.Or parts.now) vars.now network.old network.new node wanted.now) }
+{
+    let unit = Context {
+        node: sources.unit,
+        labels: Items::new(alloc),
+    };
+    let node = any_of(alloc, parts, &unit, wanted, sources, coder, network)?;
+    Ok(node)
 }
 
 /// The formula behind the unit, and its columns in the order of the variables.
@@ -289,7 +339,7 @@ fn plain_behind<P: Coder>(
     Ok(made)
 }
 
-/// A formula with a quantifier at its head. Where it only asks whether some rows lack others, no join is needed.
+/// A formula with a quantifier at its head. Where it only asks whether some rows lack others, no join of the two is needed.
 fn exists_behind<P: Coder>(
     alloc: Global,
     form: &Formula,
@@ -308,10 +358,10 @@ fn exists_behind<P: Coder>(
     requires ready { IsReady (P.cell_of coder.now) network.old.rels [] (Formula.Exists vars.now body.now) }
     ensures { IfOk result (λ b. Rooted P.Cell.cmp P.Cell.int_of (P.cell_of coder.now) sources.now.consts (Formula.Exists vars.now body.now) network.old network.new b.node b.labels) }
 {
-    if let Some((left, right)) = lacking_parts(body) {
+    if let Some((front, right)) = lacking_parts(body) {
         if is_closed(alloc, form)? {
             return difference_rows(
-                alloc, vars, body, left, right, unit, sources, coder, network,
+                alloc, vars, body, front, right, unit, sources, coder, network,
             );
         }
     }

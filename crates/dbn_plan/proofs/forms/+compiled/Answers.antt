@@ -15,10 +15,10 @@ use Rattle.dbn_plan.specs.Meaning.{vars_of}
 use Rattle.dbn_formula.specs.Free.{unhidden}
 use Rattle.dbn_formula.specs.Variables.{firsts}
 use Rattle.dbn_nodes.specs.declared.node.Node.TheVariants as node
-use Rattle.dbn_plan.specs.Making.{Grown, IsReady, Made, RoomMade, SomeMade, WithVars}
+use Rattle.dbn_plan.specs.Making.{Grown, IsReady, IsUnion, Made, RoomMade, SomeMade, WithVars}
 use Rattle.dbn_plan.proofs.StepLaws.{AllSoFar, so_far_start, so_far_step, so_far_end, first_safe, open_after, placed_after, sources_after, grown_then, grown_at}
 use Rattle.dbn_plan.proofs.FormsReady.{and_ready, not_ready, exists_ready, or_ready, never_implies, never_forall}
-use Rattle.dbn_plan.proofs.MadeLaws.{denial_made, choice_made, nothing_made, part_made, union_made, or_made, wanted_there, first_labels, chosen_there, union_fits, none_there, some_there}
+use Rattle.dbn_plan.proofs.MadeLaws.{denial_made, choice_made, nothing_made, part_made, union_made, or_made, wanted_there, first_labels, chosen_there, union_fits, none_there, some_there, union_kept}
 use Rattle.dbn_plan.proofs.StepsMade.{diff_fits}
 use Rattle.dbn_plan.proofs.forms.+compiled.Goals as goal
 
@@ -251,6 +251,7 @@ any_of-loop-i-preserved g t c =
       ready = open_after c.one_of-in-loop-i.new.network c.add.new.self new (open_after c.loop-i.network c.one_of-in-loop-i.new.network c.in_ok-right.ensures.grown c.loop-i.invariant.ready);
       some = union_made parts (take i parts) (part ∷ []) (take (i + 1) parts) c.args.network.now c.loop-i.network c.one_of-in-loop-i.new.network c.add.new.self c.args.at.now.node c.args.at.now.labels c.loop-i.made c.in_ok-right.right c.args.wanted.now c.in_ok-made-2.made
           more c.requires.placed c.loop-i.invariant.some c.in_ok-right.ensures c.in_ok-made-2.ensures.ok c.in_ok-made-2.ensures.number;
+      union = λ two. union_kept c.one_of-in-loop-i.new.network c.add.new.self c.loop-i.made c.in_ok-right.right c.in_ok-made-2.made c.in_ok-made-2.ensures.ok c.in_ok-made-2.ensures.number;
     }
 
 pub any_of-one_of-requires : goal.any_of-one_of-requires
@@ -269,10 +270,14 @@ any_of-loop-i-init g t c =
     record {
       ready = open_after c.args.network.now c.one_of.new.network c.in_ok-made.ensures.grown c.requires.open;
       some = subst (λ fs. SomeMade g.P.Cell.Ord.cmp g.P.Cell.Cell.int_of (g.P.Coder.cell_of c.args.coder.now) c.args.sources.now.consts parts fs c.args.network.now c.one_of.new.network c.args.at.now.node c.args.at.now.labels c.in_ok-made.made c.args.wanted.now) (sym one) c.in_ok-made.ensures;
+      union = λ two. let single = ap length one in absurd (omega (arith, two, single));
     }
 
-pub any_of-returns : goal.any_of-returns
-any_of-returns g t c =
+pub any_of-returns-clause-kept : goal.any_of-returns-clause-kept
+any_of-returns-clause-kept g t c = subst (λ fs. 1 < length fs → IsUnion c.loop-i.network c.loop-i.made) (take_all c.loop-i.i c.args.parts.now c.loop-i-test.false) c.loop-i.invariant.union
+
+pub any_of-returns-clause-made : goal.any_of-returns-clause-made
+any_of-returns-clause-made g t c =
     subst (λ fs. SomeMade g.P.Cell.Ord.cmp g.P.Cell.Cell.int_of (g.P.Coder.cell_of c.args.coder.now) c.args.sources.now.consts c.args.parts.now fs c.args.network.now c.loop-i.network c.args.at.now.node c.args.at.now.labels c.loop-i.made c.args.wanted.now) (take_all c.loop-i.i c.args.parts.now c.loop-i-test.false)
     c.loop-i.invariant.some
 
@@ -313,4 +318,4 @@ some_part-returns g t c =
     let some : 0 < length parts = some_there parts c.is_empty.result c.is_empty.ensures c.if-is_empty.false in
     let at : In c.index-parts-0.result parts = subst (λ f. In f parts) (sym c.index-parts-0.is) (in_get_or parts 0 c.index-parts-0.result some) in
     or_made parts c.args.network.now c.any_of.new.network c.args.at.now.node c.args.at.now.labels c.in_ok-node.node c.in_ok-labels.labels
-    (first_labels parts c.index-parts-0.result c.args.at.now.labels c.in_ok-labels.labels at c.requires.ready.safe c.in_ok-labels.ensures).labelled c.in_ok-node.ensures
+    (first_labels parts c.index-parts-0.result c.args.at.now.labels c.in_ok-labels.labels at c.requires.ready.safe c.in_ok-labels.ensures).labelled c.in_ok-node.ensures.made

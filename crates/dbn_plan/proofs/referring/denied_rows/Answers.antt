@@ -1,4 +1,3 @@
-use Rattle.std.proofs.Common.{inl, inr}
 use Rattle.dbn_plan.specs.Meaning.{vars_of}
 use Rattle.dbn_plan.proofs.RoomLaws.{unit_placed}
 use Rattle.dbn_plan.proofs.DeniedLaws.{alone_ready}

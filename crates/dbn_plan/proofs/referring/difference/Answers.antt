@@ -1,5 +1,4 @@
-use Rattle.std.proofs.Common.{refl}
-use Rattle.dbn_plan.proofs.StepLaws.{open_after, placed_after, grown_then}
+use Rattle.dbn_plan.proofs.StepLaws.{open_after, placed_after}
 use Rattle.dbn_plan.proofs.StepsMade.{diff_fits}
 use Rattle.dbn_plan.proofs.DeniedLaws.{difference_kept}
 use Rattle.dbn_plan.proofs.ReferringLaws.{difference_made}

@@ -1,4 +1,3 @@
-use Rattle.std.proofs.Common.{refl}
 use Rattle.dbn_plan.proofs.ReferringLaws.{atom_alone}
 use Rattle.dbn_plan.proofs.referring.is_atom.Goals as goal
 

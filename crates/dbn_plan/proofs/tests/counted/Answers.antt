@@ -1,4 +1,4 @@
-use Rattle.std.proofs.Common.{◌<◌, length, arith}
+use Rattle.std.proofs.Common.{arith}
 use Rattle.dbn_nodes.specs.declared.node.Node.TheVariants as node
 use Rattle.dbn_plan.proofs.StepLaws.{grown_at, grown_length}
 use Rattle.dbn_plan.proofs.TopLaws.{unit_fits}

@@ -1,8 +1,8 @@
-use Rattle.std.proofs.Common.{◌≡◌, ◌<◌, ◌∙◌, not, ap, sym, subst, length, arith}
+use Rattle.std.proofs.Common.{◌<◌, ◌∙◌, not, ap, sym, subst, length, arith}
 use Rattle.dbn_instance.specs.Facts.{changed, Fits as FitsNow}
 use Rattle.dbn_network.specs.States.{with_feeds, change_at}
 use Rattle.dbn_plan.proofs.AtomMade.{scan_fits}
-use Rattle.dbn_plan.proofs.TestedLaws.{tested_open, tested_scan, turn_fits, turned_tested, turned_more}
+use Rattle.dbn_plan.proofs.TestedLaws.{tested_open, turn_fits, turned_tested, turned_more}
 use Rattle.dbn_plan.proofs.tests.turn.Goals as goal
 
 pub add-requires-clause-fits : goal.add-requires-clause-fits

@@ -1,4 +1,3 @@
-use Rattle.std.proofs.Common.{◌≡◌}
 use Rattle.dbn_plan.proofs.StepLaws.{open_after}
 use Rattle.dbn_plan.proofs.TopLaws.{query_columns, projection_ends}
 use Rattle.dbn_plan.proofs.top.in_order.Goals as goal

@@ -1,4 +1,4 @@
-use Rattle.std.proofs.Common.{◌≡◌, ◌<◌, ap, sym, ◌∙◌, length, arith}
+use Rattle.std.proofs.Common.{◌<◌, ap, sym, length, arith}
 use Rattle.dbn_plan.proofs.TopLaws.{scan_finished}
 use Rattle.dbn_plan.proofs.top.scan_itself.Goals as goal
 
