@@ -26,9 +26,6 @@ use std::test::Fail;
 /// What stands in the rows of the plain coder.
 type Plain = <PlainCoder as Coder>::Cell;
 
-/// A relation, a row that comes to it or goes, and the rows that the query has then.
-type Turn = (usize, &'static [u8], &'static [&'static [u8]]);
-
 // ---- formulas, variables and rows as letters
 
 /// Variables and columns are ids, texts or ints by their letter.
@@ -76,7 +73,9 @@ fn term(alloc: Global, letter: u8) -> Result<Term, ValueFault> {
 fn row(alloc: Global, letters: &[u8]) -> Result<Row<Plain>, ValueFault> {
     let mut cells = Vec::new(alloc);
     for letter in letters {
-        cells.push(value_of(alloc, *letter)?)?;
+        if *letter != b'.' {
+            cells.push(value_of(alloc, *letter)?)?;
+        }
     }
     Ok(Row::from_vec(cells))
 }
@@ -127,22 +126,22 @@ fn last(formulas: &mut Vec<Formula>) -> Result<Formula, Fail> {
     }
 }
 
-/// The two that were read last.
-fn two(alloc: Global, formulas: &mut Vec<Formula>) -> Result<Formulas, Fail> {
-    let second = last(formulas)?;
-    let first = last(formulas)?;
-    let mut parts: Formulas = Items::new(alloc);
-    parts.push(first)?;
-    parts.push(second)?;
-    Ok(parts)
+/// So many that were read last.
+fn parts(formulas: &mut Vec<Formula>, many: usize) -> Result<Formulas, Fail> {
+    if many > formulas.len() {
+        return Err(Fail::new("no such parts"));
+    }
+    let parts = formulas.split_off(formulas.len() - many)?;
+    Ok(Items::from_vec(parts))
 }
 
-/// The formula of a word: `0xy` is an atom, `=xy` and `#xy` compare, `&`, `|` and `!` join or deny what was read last, and `Exy` is
-/// an `exists` over it.
+/// The formula of a word: `0xy` is an atom, `=xy` and `#xy` compare, `&`, `^` (of three), `|` and `!` join or deny what was read
+/// last, and `Exy` is an `exists` over it.
 fn made(alloc: Global, word: &[u8], formulas: &mut Vec<Formula>) -> Result<Formula, Fail> {
     match word {
-        [b'&'] => Ok(Formula::And(two(alloc, formulas)?)),
-        [b'|'] => Ok(Formula::Or(two(alloc, formulas)?)),
+        [b'&'] => Ok(Formula::And(parts(formulas, 2)?)),
+        [b'^'] => Ok(Formula::And(parts(formulas, 3)?)),
+        [b'|'] => Ok(Formula::Or(parts(formulas, 2)?)),
         [b'!'] => Ok(Formula::Not(Boxed::new(alloc, last(formulas)?)?)),
         [b'E', letters @ ..] => {
             let vars = typed(alloc, letters)?;
@@ -246,23 +245,18 @@ fn turn<C: Cell>(
     Ok(())
 }
 
-/// Whether the node has these rows, each once, and no others.
-fn has_rows(
-    alloc: Global,
-    network: &Network<Plain>,
-    node: usize,
-    rows: &[&[u8]],
-) -> Result<bool, Fail>
+/// Whether the node has these rows, each once, and no others. A dot is the row without cells.
+fn has_rows(alloc: Global, network: &Network<Plain>, node: usize, rows: &str) -> Result<bool, Fail>
     requires live { IsTrue network.now.live }
     requires range { node < length network.now.nodes }
 {
-    for letters in rows {
-        let cells = row(alloc, letters)?;
+    for word in rows.split_whitespace() {
+        let cells = row(alloc, word.as_bytes())?;
         if !network.has(alloc, node, &cells)? {
             return Ok(false);
         }
     }
-    Ok(network.table(alloc, node)?.len() == rows.len())
+    Ok(network.table(alloc, node)?.len() == rows.split_whitespace().count())
 }
 
 /// A network over the relations with these columns, without a node.
@@ -278,165 +272,279 @@ fn network_over(alloc: Global, columns: &[u8]) -> Result<Network<Plain>, Fail>
 /// The node of the query in the network.
 fn compiled(
     alloc: Global,
-    words: &[u8],
-    letters: &[u8],
+    f: &Formula,
+    vars: &TypedVars,
     network: &mut Network<Plain>,
 ) -> Result<usize, Fail>
     requires ready { IsTested network.old }
     ensures ready { OnOk result (IsTested network.new) }
     ensures range { IfOk result (λ node. node < length network.new.nodes) }
 {
-    let f = formula(alloc, words)?;
-    let vars = typed(alloc, letters)?;
-    if !is_accepted(alloc, network.rels(), &f, &vars)? {
+    if !is_accepted(alloc, network.rels(), f, vars)? {
         return Err(Fail::new("not an accepted query"));
     }
     let mut coder = PlainCoder::empty(alloc)?;
-    let node = compile(alloc, &f, &vars, &mut coder, network)?;
+    let node = compile(alloc, f, vars, &mut coder, network)?;
     Ok(node)
 }
 
-/// Whether the query has the rows that each turn tells, and takes so many nodes, those of the unit and the scans among them.
-fn follows(
+/// The node of the query of these words and letters.
+fn compiled_from(
     alloc: Global,
-    columns: &[u8],
-    words: &[u8],
-    letters: &[u8],
-    nodes: usize,
-    turns: &[Turn],
-) -> Result<bool, Fail> {
-    let mut network = network_over(alloc, columns)?;
-    let node = compiled(alloc, words, letters, &mut network)?;
-    counted(alloc, &mut network, node, nodes, turns)
+    words: &str,
+    letters: &str,
+    network: &mut Network<Plain>,
+) -> Result<usize, Fail>
+    requires ready { IsTested network.old }
+    ensures ready { OnOk result (IsTested network.new) }
+    ensures range { IfOk result (λ node. node < length network.new.nodes) }
+{
+    let f = formula(alloc, words.as_bytes())?;
+    let vars = typed(alloc, letters.as_bytes())?;
+    compiled(alloc, &f, &vars, network)
 }
 
-/// Whether there are so many nodes, and the node has no rows at first and then those that each turn tells.
-fn counted(
+/// A row comes to a relation or goes from it, and then these are the rows of the node.
+fn turned_once(
     alloc: Global,
     network: &mut Network<Plain>,
     node: usize,
-    nodes: usize,
-    turns: &[Turn],
-) -> Result<bool, Fail>
+    text: &str,
+) -> Result<(), Fail>
     requires ready { IsTested network.old }
     requires range { node < length network.old.nodes }
+    ensures ready { OnOk result (IsTested network.new) }
+    ensures range { OnOk result (node < length network.new.nodes) }
 {
-    let count = network.add(alloc, Node::Unit)?;
-    let empty = network.is_empty(alloc, node)?;
-    if count != nodes || !empty {
-        return Ok(false);
+    let (fact, rows) = text.split_once('=').ok_or("no rows")?;
+    turned_by(alloc, network, fact.as_bytes())?;
+    if !has_rows(alloc, network, node, rows)? {
+        return Err(Fail::new("other rows"));
     }
-    turned(alloc, network, node, turns)
+    Ok(())
 }
 
-/// Whether the node has the rows that each turn tells.
-fn turned(
-    alloc: Global,
-    network: &mut Network<Plain>,
-    node: usize,
-    turns: &[Turn],
-) -> Result<bool, Fail>
+/// A row comes to a relation or goes from it.
+fn turned_by(alloc: Global, network: &mut Network<Plain>, fact: &[u8]) -> Result<(), Fail>
+    requires ready { IsTested network.old }
+    ensures ready { OnOk result (IsTested network.new) }
+    ensures more { OnOk result (length network.old.nodes ≤ length network.new.nodes) }
+{
+    match fact {
+        [digit, letters @ ..] => {
+            let relation = usize::from(digit.saturating_sub(b'0'));
+            let cells = row(alloc, letters)?;
+            turn(alloc, network, relation, cells)
+        }
+        [] => Err(Fail::new("no fact")),
+    }
+}
+
+/// The node has the rows that each turn tells.
+fn turned(alloc: Global, network: &mut Network<Plain>, node: usize, turns: &str) -> Result<(), Fail>
     requires ready { IsTested network.old }
     requires range { node < length network.old.nodes }
 {
-    for (relation, letters, rows) in turns {
-        turn(alloc, network, *relation, row(alloc, letters)?)?;
-        if !has_rows(alloc, network, node, rows)? {
-            return Ok(false);
+    for text in turns.split(',') {
+        turned_once(alloc, network, node, text)?;
+    }
+    Ok(())
+}
+
+/// The nodes, a line each.
+fn lines(alloc: Global, network: &Network<Plain>) -> Result<String, Fail> {
+    let mut text = String::new(alloc);
+    for number in 0..99 {
+        if let Some(node) = network.node_at(number) {
+            writeln!(text, "{node:?}")?;
         }
     }
-    Ok(true)
+    Ok(text)
 }
 
-#[test]
-fn queries_follow_their_relations(rt: HostRuntime) -> Result<(), Fail> {
-    let alloc = rt.alloc();
-    // What holds and does not hold is nothing.
-    let turns: &[Turn] = &[(0, b"5", &[]), (0, b"5", &[])];
-    assert!(rt; follows(alloc, b"x", b"0x 0x ! &", b"x", 3, turns)?);
-    // Those who have each skill.
-    let turns: &[Turn] = &[
-        (0, b"a", &[b"a"]),
-        (1, b"w", &[]),
-        (2, b"aw", &[b"a"]),
-        (1, b"g", &[]),
-        (1, b"g", &[b"a"]),
-    ];
-    assert!(rt; follows(alloc, b"e s es", b"0e 1s 2es ! & Es ! &", b"e", 10, turns)?);
-    // Each first column once.
-    let turns: &[Turn] = &[
-        (0, b"12", &[b"1"]),
-        (0, b"13", &[b"1"]),
-        (0, b"12", &[b"1"]),
-        (0, b"13", &[]),
-    ];
-    assert!(rt; follows(alloc, b"xy", b"0xy Ey", b"x", 3, turns)?);
-    // A variable that occurs nowhere asks for a value.
-    let turns: &[Turn] = &[(0, b"5", &[]), (1, b"a", &[b"5"]), (1, b"a", &[])];
-    assert!(rt; follows(alloc, b"x s", b"0x 0x Es &", b"x", 10, turns)?);
-    Ok(())
+/// The nodes, of which this one has the rows that its turns tell.
+fn told(
+    alloc: Global,
+    network: &mut Network<Plain>,
+    node: usize,
+    turns: &str,
+) -> Result<String, Fail>
+    requires ready { IsTested network.old }
+    requires range { node < length network.old.nodes }
+{
+    let nodes = lines(alloc, &*network)?;
+    turned(alloc, network, node, turns)?;
+    Ok(nodes)
 }
 
-#[test]
-fn sentences_are_denied(rt: HostRuntime) -> Result<(), Fail> {
-    let alloc = rt.alloc();
-    let columns = b"e td te";
-    // A key of the tickets, and one of who is responsible.
-    let turns: &[Turn] = &[
-        (1, b"Aa", &[]),
-        (1, b"Bb", &[]),
-        (1, b"Ab", &[b""]),
-        (1, b"Aa", &[]),
-    ];
-    let words = b"1td =tu & 1ue & #tu #de | & Etdue";
-    assert!(rt; follows(alloc, columns, words, b"", 8, turns)?);
-    let turns: &[Turn] = &[(2, b"Aa", &[]), (2, b"Ab", &[b""]), (2, b"Aa", &[])];
-    let words = b"2te =tu & 2ud & #tu #ed | & Eteud";
-    assert!(rt; follows(alloc, columns, words, b"", 8, turns)?);
-    // A row without its ticket, and one without its employee.
-    let turns: &[Turn] = &[
-        (2, b"Aa", &[b""]),
-        (1, b"Aj", &[]),
-        (2, b"Ba", &[b""]),
-        (2, b"Ba", &[]),
-        (1, b"Aj", &[b""]),
-    ];
-    let words = b"2te 1td Ed ! & Ete";
-    assert!(rt; follows(alloc, columns, words, b"", 7, turns)?);
-    let turns: &[Turn] = &[(2, b"Aa", &[b""]), (0, b"a", &[]), (0, b"a", &[b""])];
-    assert!(rt; follows(alloc, columns, b"2te 0e ! & Ete", b"", 6, turns)?);
-    // Two tickets of one employee.
-    let turns: &[Turn] = &[(2, b"Aa", &[]), (2, b"Bb", &[]), (2, b"Ba", &[b""])];
-    assert!(rt; follows(alloc, columns, b"2te 2ue & #tu & Eteu", b"", 5, turns)?);
-    // Employees without a ticket.
-    let turns: &[Turn] = &[
-        (0, b"a", &[b"a"]),
-        (2, b"Aa", &[]),
-        (0, b"b", &[b"b"]),
-        (2, b"Aa", &[b"a", b"b"]),
-    ];
-    assert!(rt; follows(alloc, columns, b"0e 2te Et ! &", b"e", 5, turns)?);
-    Ok(())
+/// The nodes of a query over relations with these columns.
+fn planned(
+    alloc: Global,
+    columns: &str,
+    words: &str,
+    letters: &str,
+    turns: &str,
+) -> Result<String, Fail> {
+    let mut network = network_over(alloc, columns.as_bytes())?;
+    let node = compiled_from(alloc, words, letters, &mut network)?;
+    told(alloc, &mut network, node, turns)
 }
 
+/// The nodes of a query.
+fn nodes_of(alloc: Global, text: &str) -> Result<String, Fail> {
+    let (columns, text) = text.split_once(';').ok_or("no formula")?;
+    let (words, text) = text.split_once(';').ok_or("no variables")?;
+    let (letters, turns) = text.split_once(';').ok_or("no turns")?;
+    planned(alloc, columns, words, letters, turns)
+}
+
+/// The columns of relations, a formula, the variables of a query, and facts that come or go, each with the rows of the query then;
+/// below them the nodes of the query, the last of which tells its rows.
+const QUERIES: &str = "\
+e td te;1td =tu & 1ue & #tu #de | & Etdue;;1Aa=,1Bb=,1Ab=.,1Aa=
+Unit
+Scan { feed: 1 }
+Extend { from: 1, with: Copied(0) }
+Join { left: 2, right: 1, on: Items { items: [(2, 0)] } }
+Select { from: 3, tests: Items { items: [Columns { cmp: Ne, left: 0, right: 2 }] } }
+Select { from: 3, tests: Items { items: [Columns { cmp: Ne, left: 1, right: 4 }] } }
+Union { left: 4, right: 5 }
+Project { from: 6, cols: Nums { nums: [] } }
+
+e td te;2te =tu & 2ud & #tu #ed | & Eteud;;2Aa=,2Ab=.,2Aa=
+Unit
+Scan { feed: 2 }
+Extend { from: 1, with: Copied(0) }
+Join { left: 2, right: 1, on: Items { items: [(2, 0)] } }
+Select { from: 3, tests: Items { items: [Columns { cmp: Ne, left: 0, right: 2 }] } }
+Select { from: 3, tests: Items { items: [Columns { cmp: Ne, left: 1, right: 4 }] } }
+Union { left: 4, right: 5 }
+Project { from: 6, cols: Nums { nums: [] } }
+
+e td te;2te 1td Ed ! & Ete;;2Aa=.,1Aj=,2Ba=.,2Ba=,1Aj=.
+Unit
+Scan { feed: 2 }
+Scan { feed: 1 }
+Project { from: 2, cols: Nums { nums: [0] } }
+Project { from: 1, cols: Nums { nums: [0] } }
+Diff { left: 4, right: 3 }
+Project { from: 5, cols: Nums { nums: [] } }
+
+e td te;2te 0e ! & Ete;;2Aa=.,0a=,0a=.
+Unit
+Scan { feed: 2 }
+Scan { feed: 0 }
+Project { from: 1, cols: Nums { nums: [1] } }
+Diff { left: 3, right: 2 }
+Project { from: 4, cols: Nums { nums: [] } }
+
+e td te;2te 2ue & #tu & Eteu;;2Aa=,2Bb=,2Ba=.
+Unit
+Scan { feed: 2 }
+Join { left: 1, right: 1, on: Items { items: [(1, 1)] } }
+Select { from: 2, tests: Items { items: [Columns { cmp: Ne, left: 0, right: 2 }] } }
+Project { from: 3, cols: Nums { nums: [] } }
+
+e td te;0e 2te Et ! &;e;0a=a,2Aa=,0b=b,2Aa=a b
+Unit
+Scan { feed: 0 }
+Scan { feed: 2 }
+Project { from: 2, cols: Nums { nums: [1] } }
+Diff { left: 1, right: 3 }
+
+x;0x 0x ! &;x;05=,05=
+Unit
+Scan { feed: 0 }
+Diff { left: 1, right: 1 }
+
+e s es;0e 1s 2es ! & Es ! &;e;0a=a,1w=,2aw=a,1g=,2ag=a
+Unit
+Scan { feed: 0 }
+Scan { feed: 1 }
+Scan { feed: 2 }
+Join { left: 1, right: 2, on: Items { items: [] } }
+Join { left: 4, right: 3, on: Items { items: [(0, 0), (1, 1)] } }
+Project { from: 5, cols: Nums { nums: [0, 1] } }
+Diff { left: 4, right: 6 }
+Project { from: 7, cols: Nums { nums: [0] } }
+Diff { left: 1, right: 8 }
+
+e s es;0e 1s 2es ! ^;es;0a=,1w=aw,2aw=,1g=ag
+Unit
+Scan { feed: 0 }
+Scan { feed: 1 }
+Scan { feed: 2 }
+Join { left: 1, right: 2, on: Items { items: [] } }
+Diff { left: 4, right: 3 }
+
+xy;0xy Ey;x;012=1,013=1,012=1,013=
+Unit
+Scan { feed: 0 }
+Project { from: 1, cols: Nums { nums: [0] } }
+
+x s;0x 0x Es &;x;05=,1a=5,1a=
+Unit
+Scan { feed: 0 }
+Join { left: 1, right: 1, on: Items { items: [(0, 0)] } }
+Diff { left: 0, right: 0 }
+Scan { feed: 1 }
+Project { from: 4, cols: Nums { nums: [] } }
+Union { left: 3, right: 5 }
+Join { left: 2, right: 6, on: Items { items: [] } }
+Project { from: 7, cols: Nums { nums: [0] } }
+Project { from: 8, cols: Nums { nums: [0] } }
+
+xy;0xy;xy;012=12,034=12 34
+Unit
+Scan { feed: 0 }
+
+xy;0xy;yx;012=21
+Unit
+Scan { feed: 0 }
+Project { from: 1, cols: Nums { nums: [1, 0] } }
+
+xy;0x3 0xx |;x;012=,033=3,043=3 4
+Unit
+Scan { feed: 0 }
+Select { from: 1, tests: Items { items: [Constant { cmp: Eq, col: 1, cell: Int(51) }] } }
+Project { from: 2, cols: Nums { nums: [0] } }
+Select { from: 1, tests: Items { items: [Columns { cmp: Eq, left: 0, right: 1 }] } }
+Project { from: 4, cols: Nums { nums: [0] } }
+Union { left: 3, right: 5 }
+
+xy;0xy 0yx |;yx;012=12 21
+Unit
+Scan { feed: 0 }
+Project { from: 1, cols: Nums { nums: [1, 0] } }
+Union { left: 2, right: 1 }
+
+xy;0xy <xy & <y7 &;xy;021=,012=12,017=12
+Unit
+Scan { feed: 0 }
+Select { from: 1, tests: Items { items: [Columns { cmp: Lt, left: 0, right: 1 }] } }
+Select { from: 2, tests: Items { items: [Constant { cmp: Lt, col: 1, cell: Int(55) }] } }
+Project { from: 3, cols: Nums { nums: [0, 1] } }
+
+x y;0x 1y & =xy &;xy;01=,12=,11=11
+Unit
+Scan { feed: 0 }
+Scan { feed: 1 }
+Join { left: 1, right: 2, on: Items { items: [] } }
+Select { from: 3, tests: Items { items: [Columns { cmp: Eq, left: 0, right: 1 }] } }
+Project { from: 4, cols: Nums { nums: [0, 1] } }
+
+x;0x =y5 &;xy;01=15
+Unit
+Scan { feed: 0 }
+Extend { from: 1, with: Constant(Int(53)) }
+Project { from: 2, cols: Nums { nums: [0, 1] } }";
+
 #[test]
-fn each_form_has_its_rows(rt: HostRuntime) -> Result<(), Fail> {
-    let alloc = rt.alloc();
-    let turns: &[Turn] = &[(0, b"12", &[b"12"]), (0, b"34", &[b"12", b"34"])];
-    assert!(rt; follows(alloc, b"xy", b"0xy", b"xy", 2, turns)?);
-    let turns: &[Turn] = &[(0, b"12", &[b"21"])];
-    assert!(rt; follows(alloc, b"xy", b"0xy", b"yx", 3, turns)?);
-    let turns: &[Turn] = &[
-        (0, b"12", &[]),
-        (0, b"33", &[b"3"]),
-        (0, b"43", &[b"3", b"4"]),
-    ];
-    assert!(rt; follows(alloc, b"xy", b"0x3 0xx |", b"x", 7, turns)?);
-    let turns: &[Turn] = &[(0, b"21", &[]), (0, b"12", &[b"12"]), (0, b"17", &[b"12"])];
-    assert!(rt; follows(alloc, b"xy", b"0xy <xy & <y7 &", b"xy", 5, turns)?);
-    let turns: &[Turn] = &[(0, b"1", &[]), (1, b"2", &[]), (1, b"1", &[b"11"])];
-    assert!(rt; follows(alloc, b"x y", b"0x 1y & =xy &", b"xy", 6, turns)?);
-    let turns: &[Turn] = &[(0, b"1", &[b"15"])];
-    assert!(rt; follows(alloc, b"x", b"0x =y5 &", b"xy", 4, turns)?);
+fn each_query_has_its_nodes_and_rows(rt: HostRuntime) -> Result<(), Fail> {
+    for case in QUERIES.split("\n\n") {
+        let (query, nodes) = case.split_once('\n').ok_or("no nodes")?;
+        let found = nodes_of(rt.alloc(), query)?;
+        assert!(rt; found.trim_end() == nodes, "{query}\n{found}");
+    }
     Ok(())
 }

@@ -7,7 +7,7 @@ pub compile-requires-clause-open : goal.compile-requires-clause-open
 compile-requires-clause-open c = tested_open c.args.network.now c.requires.ready
 
 pub compile-requires-clause-accepted : goal.compile-requires-clause-accepted
-compile-requires-clause-accepted c = subst (λ rs. AcceptsQuery rs c.in_ok-vars.vars c.in_ok-f.f) c.rels.ensures (c.in_ok-is_accepted.ensures c.if-not-branch.false)
+compile-requires-clause-accepted c = subst (λ rs. AcceptsQuery rs c.args.vars.now c.args.f.now) c.rels.ensures (c.in_ok-is_accepted.ensures c.if-not-branch.false)
 
 pub returns-clause-ready : goal.returns-clause-ready
 returns-clause-ready c = tested_after c.args.network.now c.compile.new.network c.in_ok-node.ensures.grown c.requires.ready
