@@ -1,5 +1,5 @@
 -- The order of cells, the type of a cell and the number of an int.
-use Rattle.std.specs.Prelude.{◌≡◌, ℤ, refl, Option, Some, None, IsSome, ◌↔◌}
+use Rattle.std.specs.Prelude.{◌≡◌, ℤ, ℕ, pos, refl, Option, Some, None, IsSome, ◌↔◌}
 use Rattle.std.proofs.Common.{ap}
 use Rattle.std.specs.Ordering.{nat_cmp, int_cmp, ordering_reverse}
 use Rattle.std.specs.declared.cmp.Ordering.{Ordering}
@@ -22,6 +22,24 @@ cell_cmp (Id a) (Sym b) = Less
 cell_cmp (Sym a) (Int b) = Greater
 cell_cmp (Sym a) (Id b) = Greater
 cell_cmp (Sym a) (Sym b) = nat_cmp a b
+
+-- the place of the kind of a cell
+abbrev pub cell_rank : SymCell → ℕ
+cell_rank (Int n) = 0
+cell_rank (Id n) = 1
+cell_rank (Sym k) = 2
+
+-- the number of an int
+abbrev pub cell_whole : SymCell → ℤ
+cell_whole (Int n) = n
+cell_whole (Id n) = pos 0
+cell_whole (Sym k) = pos 0
+
+-- the number of an id or of a symbol
+abbrev pub cell_number : SymCell → ℕ
+cell_number (Int n) = 0
+cell_number (Id n) = n
+cell_number (Sym k) = k
 
 abbrev pub cell_type : SymCell → ColType
 cell_type (Int n) = col.Int

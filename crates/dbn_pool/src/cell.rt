@@ -3,7 +3,7 @@
 ghost use Rattle.std.specs.Prelude.{◌≡◌, refl};
 ghost use Rattle.std.specs.Ordering.{eq_by_cmp, as_partial_cmp};
 ghost use Rattle.std.specs.Cmp.{partial_equiv_from_equiv, eq_by_cmp_equiv, partial_order_from_total};
-ghost use Rattle.dbn_pool.specs.Cells.{cell_cmp, cell_total, cell_type, cell_int, exact_cells, ints_have_numbers, ints_by_number};
+ghost use Rattle.dbn_pool.specs.Cells.{cell_cmp, cell_rank, cell_whole, cell_number, cell_total, cell_type, cell_int, exact_cells, ints_have_numbers, ints_by_number};
 
 use dbn_value::{Cell, ColType, CopyIn, IdNo};
 use std::alloc::{AllocError, Global};
@@ -21,19 +21,53 @@ pub enum SymCell {
     Sym(u64),
 }
 
-/// The order of cells: ints before ids before symbols, each by number.
+/// The place of the kind of a cell: ints before ids before symbols.
+fn rank(cell: &SymCell) -> u8
+    ensures { result ≡ cell_rank cell.now }
+{
+    match cell {
+        SymCell::Int(_) => 0,
+        SymCell::Id(_) => 1,
+        SymCell::Sym(_) => 2,
+    }
+}
+
+/// The number of an int, and 0 of another cell.
+fn whole(cell: &SymCell) -> i64
+    ensures { result ≡ cell_whole cell.now }
+{
+    match cell {
+        SymCell::Int(n) => *n,
+        SymCell::Id(_) => 0,
+        SymCell::Sym(_) => 0,
+    }
+}
+
+/// The number of an id or of a symbol, and 0 of an int.
+fn number(cell: &SymCell) -> u64
+    ensures { result ≡ cell_number cell.now }
+{
+    match cell {
+        SymCell::Int(_) => 0,
+        SymCell::Id(id) => id.number(),
+        SymCell::Sym(symbol) => *symbol,
+    }
+}
+
+/// The order of cells: ints before ids before symbols, each by number. Cells of one kind, which a table mostly compares, take one
+/// comparison of their numbers; a match of each kind with each is several times as long.
 fn compare(a: &SymCell, b: &SymCell) -> Ordering
     ensures { result ≡ cell_cmp a.now b.now }
 {
-    match (a, b) {
-        (SymCell::Int(m), SymCell::Int(n)) => m.cmp(n),
-        (SymCell::Int(_), _) => Ordering::Less,
-        (SymCell::Id(_), SymCell::Int(_)) => Ordering::Greater,
-        (SymCell::Id(i), SymCell::Id(j)) => i.number().cmp(&j.number()),
-        (SymCell::Id(_), SymCell::Sym(_)) => Ordering::Less,
-        (SymCell::Sym(j), SymCell::Sym(k)) => j.cmp(k),
-        (SymCell::Sym(_), _) => Ordering::Greater,
+    let kind = rank(a);
+    let other = rank(b);
+    if kind != other {
+        return kind.cmp(&other);
     }
+    if kind == 0 {
+        return whole(a).cmp(&whole(b));
+    }
+    number(a).cmp(&number(b))
 }
 
 impl PartialEq for SymCell {
