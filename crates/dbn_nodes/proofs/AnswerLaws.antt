@@ -1,5 +1,5 @@
 -- The rows of a node follow from what it keeps.
-use Rattle.std.proofs.Common.{◌≡◌, ◌<◌, ◌+◌, ℕ, zero, suc, ◌⊎◌, inl, inr, ⊎_elim, Bool, true, false, cond, not, ◌&&◌, ◌||◌, ◌↔◌, List, [], ◌∷◌, ◌++◌, map, refl, ap, sym, ◌∙◌, subst, length, take, get_or, nat_lt, nat_eq, arith}
+use Rattle.std.proofs.Common.{◌≡◌, ◌<◌, ◌+◌, ℕ, zero, suc, inl, Bool, true, false, cond, not, ◌&&◌, ◌||◌, ◌↔◌, List, [], ◌∷◌, ◌++◌, map, refl, ap, sym, ◌∙◌, subst, length, take, get_or, nat_lt, nat_eq, arith}
 use Rattle.std.proofs.lemmas.Bool.Decides.{nat_tests}
 use Rattle.std.proofs.lemmas.Bool.{true≢false, and_parts, and_from, false_from_ne_true}
 use Rattle.std.specs.declared.cmp.Ordering.{Ordering}
@@ -17,13 +17,12 @@ use Rattle.dbn_value.specs.Ascending.{ascending}
 use Rattle.dbn_value.proofs.ListLaws.{take_more}
 use Rattle.dbn_value.proofs.MemberLaws.{any_map, in_filter, filter_in}
 use Rattle.dbn_value.proofs.AscendingLaws.{sorted_ascending, same_tests, any_ascending, ascending_push}
-use Rattle.dbn_nodes.specs.declared.node.Node.{Node}
 use Rattle.dbn_nodes.specs.declared.node.Node.TheVariants as node
 use Rattle.dbn_nodes.specs.declared.state.Kept.{Kept}
 use Rattle.dbn_nodes.specs.Changes.{maybe}
 use Rattle.dbn_nodes.specs.Tables.{choose, count_at, has, AreRowsOf}
-use Rattle.dbn_nodes.specs.Values.{matched, joined, without, projected, either, value_of}
-use Rattle.dbn_nodes.specs.Stands.{firsts, seconds, IsIndex, IsPlain, IsSupport, IsEither, Stands, Good}
+use Rattle.dbn_nodes.specs.Values.{matched, without, projected, either}
+use Rattle.dbn_nodes.specs.Stands.{firsts, IsPlain, IsSupport, IsEither, Stands, Good}
 use Rattle.dbn_nodes.specs.Answering.{JoinsWith, all_pairs}
 use Rattle.dbn_nodes.proofs.ChangeLaws.{rows_exact, row_in_rows, in_row, itself}
 use Rattle.dbn_nodes.proofs.NodeLaws.{plain_has, left_others}

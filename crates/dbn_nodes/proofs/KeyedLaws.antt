@@ -1,5 +1,5 @@
 -- What a change of one shelf does to the counts of a table.
-use Rattle.std.proofs.Common.{◌≡◌, ◌<◌, ◌↔◌, IsTrue, ℕ, zero, Bool, true, false, cond, ◌&&◌, List, [], ◌∷◌, refl, sym, ap, ◌∙◌, subst, Some, None, Option, nat_lt, Result, Ok, Err, length, arith}
+use Rattle.std.proofs.Common.{◌≡◌, ◌<◌, ◌+◌, ◌↔◌, IsTrue, ℕ, zero, Bool, true, false, cond, ◌&&◌, List, [], ◌∷◌, refl, sym, ap, ◌∙◌, subst, Some, None, Option, nat_lt, Result, Ok, Err, length, arith}
 use Rattle.std.specs.Prelude.{IsSome, OnErr}
 use Rattle.std.proofs.lemmas.Bool.{true≢false}
 use Rattle.std.specs.declared.cmp.Ordering.{Ordering}
@@ -111,6 +111,37 @@ module _ {K : Type 0} {R : K → K → Ordering} (o : IsTotalOrder R) (exact : I
       two true found h = tt
       two false found h = h
 
+  -- the count of a row, by the shelf that a look-up found
+  pub told_at : (table same : List (K × List (K × ℕ))) (key row : K) (shelf : List (K × ℕ)) (many : ℕ) → table ≡ same → Some shelf ≡ lookup (is_at (R key)) table → many ≡ shelf_count R shelf row → many ≡ count_at R same key row
+  told_at table same key row shelf many is was told = told ∙ ap (λ s. shelf_count R s row) (shelf_is table key shelf (sym was)) ∙ ap (λ t. count_at R t key row) is
+
+  pub told_none : (table same : List (K × List (K × ℕ))) (key row : K) → table ≡ same → None ≡ lookup (is_at (R key)) table → 0 ≡ count_at R same key row
+  told_none table same key row is was = sym (ap (λ (found : Option (List (K × ℕ))). shelf_count R (unwrap_or found []) row) (sym was)) ∙ ap (λ t. count_at R t key row) is
+
+  -- the count of a row is one more
+  pub raised_counts : (old new same : List (K × List (K × ℕ))) (key row : K) (shelf after : List (K × ℕ)) → old ≡ same → lookup (is_at (R key)) old ≡ Some shelf → new ≡ set_value (is_at (R key)) old after
+      → ((r : K) → shelf_count R after r ≡ cond (is_at (R row) r) (shelf_count R shelf row + 1) (shelf_count R shelf r))
+      → (k r : K) → count_at R new k r ≡ cond (eq_by_cmp R key k && eq_by_cmp R row r) (count_at R same key row + 1) (count_at R same k r)
+  raised_counts old new same key row shelf after same_is was is counts k r =
+      changed_counts old new key row (shelf_count R shelf row + 1) shelf after was is counts k r
+      ∙ ap (λ (n : ℕ). cond (eq_by_cmp R key k && eq_by_cmp R row r) (n + 1) (count_at R old k r)) (told_at old same key row shelf (shelf_count R shelf row) same_is (sym was) refl)
+      ∙ ap (λ t. cond (eq_by_cmp R key k && eq_by_cmp R row r) (count_at R same key row + 1) (count_at R t k r)) same_is
+
+  pub first_counts : (old mid new same : List (K × List (K × ℕ))) (key row : K) (shelf : List (K × ℕ)) → old ≡ same → mid ≡ old → lookup (is_at (R key)) old ≡ None
+      → ((q : K) → lookup (is_at (R q)) new ≡ cond (is_at (R key) q) (Some shelf) (lookup (is_at (R q)) mid))
+      → ((r : K) → shelf_count R shelf r ≡ cond (is_at (R row) r) 1 0)
+      → (k r : K) → count_at R new k r ≡ cond (eq_by_cmp R key k && eq_by_cmp R row r) (count_at R same key row + 1) (count_at R same k r)
+  first_counts old mid new same key row shelf same_is mid_is was put counts k r =
+      new_counts old new key row 1 shelf was (λ q. put q ∙ ap (λ t. cond (is_at (R key) q) (Some shelf) (lookup (is_at (R q)) t)) mid_is) counts k r
+      ∙ ap (λ (n : ℕ). cond (eq_by_cmp R key k && eq_by_cmp R row r) (n + 1) (count_at R old k r)) (told_none old same key row same_is (sym was))
+      ∙ ap (λ t. cond (eq_by_cmp R key k && eq_by_cmp R row r) (count_at R same key row + 1) (count_at R t k r)) same_is
+
+  pub first_table : (old mid new : List (K × List (K × ℕ))) (key row : K) (shelf : List (K × ℕ)) → mid ≡ old
+      → ((q : K) → lookup (is_at (R q)) new ≡ cond (is_at (R key) q) (Some shelf) (lookup (is_at (R q)) mid))
+      → ((r : K) → shelf_count R shelf r ≡ cond (is_at (R row) r) 1 0) → IsTable R old → IsTable R new
+  first_table old mid new key row shelf mid_is put counts table =
+      put_table old new key shelf (λ q. put q ∙ ap (λ t. cond (is_at (R key) q) (Some shelf) (lookup (is_at (R q)) t)) mid_is) table (filled_set shelf row 1 (λ q. 0) counts (omega arith))
+
   -- a key that is not there has no counts, and taking it out changes none
   pub absent_counts : (old : List (K × List (K × ℕ))) (key row : K) → lookup (is_at (R key)) old ≡ None
       → (k r : K) → count_at R old k r ≡ cond (eq_by_cmp R key k && eq_by_cmp R row r) 0 (count_at R old k r)
@@ -200,3 +231,17 @@ counts_named R new old key at row copy m n key_is copy_is m_is counts k r =
     ∙ ap (λ x. cond (eq_by_cmp R x k && eq_by_cmp R copy r) m (count_at R old k r)) key_is
     ∙ ap (λ x. cond (eq_by_cmp R at k && eq_by_cmp R x r) m (count_at R old k r)) copy_is
     ∙ ap (λ x. cond (eq_by_cmp R at k && eq_by_cmp R row r) x (count_at R old k r)) m_is
+
+-- a count that is taken out and put back one less
+pub lowered_counts : {K : Type 0} (R : K → K → Ordering) (new mid old : List (K × List (K × ℕ))) (key again at row copy : K) (m n : ℕ) → key ≡ at → again ≡ at → copy ≡ row → m ≡ n
+    → ((k r : K) → count_at R mid k r ≡ cond (eq_by_cmp R key k && eq_by_cmp R row r) 0 (count_at R old k r))
+    → ((k r : K) → count_at R new k r ≡ cond (eq_by_cmp R again k && eq_by_cmp R copy r) m (count_at R mid k r))
+    → (k r : K) → count_at R new k r ≡ cond (eq_by_cmp R at k && eq_by_cmp R row r) n (count_at R old k r)
+lowered_counts R new mid old key again at row copy m n key_is again_is copy_is m_is taken put k r =
+    counts_named R new mid again at row copy m n again_is copy_is m_is put k r
+    ∙ ap (cond (eq_by_cmp R at k && eq_by_cmp R row r) n) (counts_named R mid old key at row row 0 0 key_is refl refl taken k r)
+    ∙ over (eq_by_cmp R at k && eq_by_cmp R row r)
+  where
+    over : (b : Bool) → cond b n (cond b 0 (count_at R old k r)) ≡ cond b n (count_at R old k r)
+    over true = refl
+    over false = refl

@@ -1,5 +1,5 @@
 -- Kind by kind: what a node keeps follows a change of an input, and the events lead to the value after it.
-use Rattle.std.proofs.Common.{◌≡◌, ◌<◌, ◌≤◌, ◌+◌, ◌-◌, ◌==◌, ◌⊎◌, inl, inr, ⊎_elim, ℕ, zero, suc, Bool, true, false, cond, not, ◌&&◌, List, [], ◌∷◌, ◌++◌, map, refl, sym, ap, ◌∙◌, subst, length, take, nat_eq, nat_lt, arith}
+use Rattle.std.proofs.Common.{◌≡◌, ◌≤◌, ◌+◌, ◌-◌, ◌==◌, ◌⊎◌, inl, inr, ⊎_elim, ℕ, zero, suc, Bool, true, false, cond, not, ◌&&◌, List, [], ◌∷◌, ◌++◌, map, refl, sym, ap, ◌∙◌, subst, length, nat_eq, nat_lt, arith}
 use Rattle.std.specs.declared.cmp.Ordering.{Ordering}
 use Rattle.std.specs.Ordering.{eq_by_cmp}
 use Rattle.std.specs.Cmp.{IsTotalOrder}
@@ -13,7 +13,6 @@ use Rattle.std.proofs.lemmas.List.Kept.{IsStrictlySortedBy-filter}
 use Rattle.std.proofs.lemmas.List.{length-append, length-map}
 use Rattle.dbn_value.specs.Members.{In}
 use Rattle.dbn_value.specs.Picked.{picked}
-use Rattle.dbn_value.specs.Ascending.{ascending}
 use Rattle.dbn_value.proofs.MemberLaws.{in_filter, filter_in, in_append, in_map}
 use Rattle.dbn_value.proofs.AscendingLaws.{same_members, sorted_one, sorted_ascending, in_images, images_in, not_below_itself, head_below}
 use Rattle.std.proofs.lemmas.Map.Keys.{sorted_tail}
@@ -24,9 +23,9 @@ use Rattle.dbn_nodes.specs.declared.node.Node.{Node}
 use Rattle.dbn_nodes.specs.declared.node.Node.TheVariants as node
 use Rattle.dbn_nodes.specs.declared.state.Kept.{Kept}
 use Rattle.dbn_nodes.specs.Tables.{choose, count_at, has, AreRowsOf}
-use Rattle.dbn_nodes.specs.Changes.{row_in, comes, signed, maybe, Leads}
+use Rattle.dbn_nodes.specs.Changes.{row_in, comes, signed, maybe}
 use Rattle.dbn_nodes.specs.Values.{passes, matched, joined, without, projected, either, extended, added_cells, value_of}
-use Rattle.dbn_nodes.specs.Stands.{firsts, seconds, PairsIn, AreOneWide, IsIndex, IsPlain, IsSupport, IsEither, Stands, Good, FollowsLeft, FollowsRight, LeadOn, most_left, most_right, LeadsLeft, LeadsRight}
+use Rattle.dbn_nodes.specs.Stands.{firsts, seconds, PairsIn, AreOneWide, IsIndex, IsPlain, Stands, Good, FollowsLeft, FollowsRight, LeadOn, most_left, most_right, LeadsLeft, LeadsRight}
 use Rattle.dbn_nodes.proofs.ChangeLaws.{Adds, Apart, Moves, rows_exact, row_in_rows, in_row, itself, same_row, other_row, one_moves, moved_on}
 use Rattle.dbn_nodes.proofs.ValueLaws.{filter_adds, image_adds, union_adds, union_adds_right, without_adds, fronts, join_left_adds, join_right_adds, matched_same, same_matched}
 use Rattle.dbn_nodes.proofs.StandsLaws.{was_there, index_moves, tally_here, tally_moves, either_counts, either_counts_right, filter_more, others_stay}

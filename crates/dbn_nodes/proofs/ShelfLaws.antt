@@ -1,18 +1,19 @@
 -- A shelf with one row, and what a change does to the counts.
-use Rattle.std.proofs.Common.{◌≡◌, ◌<◌, ℕ, zero, suc, Bool, true, false, cond, ◌&&◌, ◌||◌, ◌↔◌, IsTrue, nat_lt, is_some, List, [], ◌∷◌, refl, sym, ap, ◌∙◌, subst, Some, None, Option, length, arith}
+use Rattle.std.proofs.Common.{◌≡◌, ◌<◌, ◌+◌, ℕ, zero, suc, Bool, true, false, cond, ◌&&◌, ◌||◌, ◌↔◌, IsTrue, nat_lt, is_some, List, [], ◌∷◌, refl, sym, ap, ◌∙◌, subst, Some, None, Option, length, arith}
 use Rattle.std.specs.declared.cmp.Ordering.{Ordering}
-use Rattle.std.specs.Ordering.{eq_by_cmp, is_eq}
+use Rattle.std.specs.Ordering.{is_eq}
 use Rattle.std.specs.Option.{unwrap_or, IfSome}
-use Rattle.std.specs.Cmp.{IsTotalOrder, both_ways, Equal-is, tied_itself}
+use Rattle.std.specs.Cmp.{IsTotalOrder, Equal-is, tied_itself}
 use Rattle.std.specs.FinMap.{IsAntisymmetric}
-use Rattle.std.specs.Map.{lookup, keys_of}
+use Rattle.std.specs.Map.{lookup, keys_of, set_value}
 use Rattle.std.specs.BTreeMap.{is_at, insert_entry}
 use Rattle.std.specs.List.{list_all}
 use Rattle.std.specs.List.Sorted.{IsStrictlySortedBy}
-use Rattle.dbn_value.specs.Members.{In}
 use Rattle.dbn_value.proofs.MemberLaws.{all_at, all_from}
 use Rattle.dbn_value.proofs.AscendingLaws.{sorted_one, any_from_in, in_from_any}
-use Rattle.dbn_value.proofs.EntryLaws.{lookup_insert_entry}
+use Rattle.dbn_value.proofs.EntryLaws.{lookup_insert_entry, lookup_set_value}
+use Rattle.std.specs.Prelude.{IsSome}
+use Rattle.std.proofs.lemmas.Map.{keys-set_value}
 use Rattle.std.proofs.lemmas.Bool.Decides.{nat_tests}
 use Rattle.dbn_nodes.specs.Tables.{shelf_count, IsShelf, IsFilled, has}
 
@@ -136,6 +137,75 @@ module _ {K : Type 0} {R : K → K → Ordering} (o : IsTotalOrder R) (exact : I
       counted (Some zero) h = absurd (omega arith)
       counted (Some (suc n)) h = grind (arith, nat_tests)
       counted None h = refl
+
+  -- ---- one count more
+
+  pub two_count : (fs : List (K × ℕ)) (row own : K) (many held : ℕ) → ((q : K) → lookup (is_at (R q)) fs ≡ cond (is_at (R row) q) (Some many) (cond (is_at (R own) q) (Some held) None))
+      → (q : K) → shelf_count R fs q ≡ cond (is_at (R row) q) many (shelf_count R ((own, held) ∷ []) q)
+  two_count fs row own many held is q = ap (λ found. unwrap_or found 0) (is q) ∙ two (is_at (R row) q) (is_at (R own) q) ∙ ap (cond (is_at (R row) q) many) (sym (one_is own held q))
+    where
+      two : (b c : Bool) → unwrap_or (cond b (Some many) (cond c (Some held) None)) 0 ≡ cond b many (cond c held 0)
+      two true c = refl
+      two false true = refl
+      two false false = refl
+
+  pub two_filled : (fs : List (K × ℕ)) (row own : K) (many held : ℕ) → 0 < many → 0 < held → ((q : K) → lookup (is_at (R q)) fs ≡ cond (is_at (R row) q) (Some many) (cond (is_at (R own) q) (Some held) None))
+      → IsStrictlySortedBy R (keys_of fs) → IsShelf R fs
+  two_filled fs row own many held some more is sorted = record {
+    ascends = sorted;
+    filled = λ q. subst (λ found. IfSome found (λ n. 0 < n)) (sym (is q)) (two (is_at (R row) q) (is_at (R own) q));
+  }
+    where
+      two : (b c : Bool) → IfSome (cond b (Some many) (cond c (Some held) None)) (λ n. 0 < n)
+      two true c = some
+      two false true = more
+      two false false = tt
+
+  -- .. of the one row, of another row, and in a map
+  pub raised_one : (row own : K) (held : ℕ) → is_eq (R row own) ≡ true → (q : K)
+      → shelf_count R ((own, held + 1) ∷ []) q ≡ cond (is_at (R row) q) (shelf_count R ((own, held) ∷ []) row + 1) (shelf_count R ((own, held) ∷ []) q)
+  raised_one row own held e q = one_changed row own held (held + 1) e q ∙ ap (λ n. cond (is_at (R row) q) (n + 1) (shelf_count R ((own, held) ∷ []) q)) (one_count row own held true e)
+
+  pub raised_two : (fs : List (K × ℕ)) (row copy own : K) (held : ℕ) → copy ≡ row → is_eq (R row own) ≡ false → ((q : K) → lookup (is_at (R q)) fs ≡ cond (is_at (R copy) q) (Some 1) (cond (is_at (R own) q) (Some held) None))
+      → (q : K) → shelf_count R fs q ≡ cond (is_at (R row) q) (shelf_count R ((own, held) ∷ []) row + 1) (shelf_count R ((own, held) ∷ []) q)
+  raised_two fs row copy own held copy_is e is q =
+      two_count fs copy own 1 held is q
+      ∙ ap (λ x. cond (is_at (R x) q) 1 (shelf_count R ((own, held) ∷ []) q)) copy_is
+      ∙ ap (λ (n : ℕ). cond (is_at (R row) q) (n + 1) (shelf_count R ((own, held) ∷ []) q)) (one_count row own held false e)
+
+  -- .. of a row in a map, which is there or not
+  pub raised_found : (es fs : List (K × ℕ)) (row : K) (many : ℕ) → lookup (is_at (R row)) es ≡ Some many → fs ≡ set_value (is_at (R row)) es (many + 1)
+      → (q : K) → lookup (is_at (R q)) fs ≡ cond (is_at (R row) q) (Some (shelf_count R es row + 1)) (lookup (is_at (R q)) es)
+  raised_found es fs row many was is q =
+      ap (lookup (is_at (R q))) is
+      ∙ lookup_set_value o q row (many + 1) es (subst IsSome (sym was) refl)
+      ∙ ap (λ (n : ℕ). cond (is_at (R row) q) (Some (n + 1)) (lookup (is_at (R q)) es)) (sym (ap (λ f. unwrap_or f 0) was))
+
+  pub set_ordered : (es fs : List (K × ℕ)) (row : K) (many : ℕ) → fs ≡ set_value (is_at (R row)) es many → IsStrictlySortedBy R (keys_of es) → IsStrictlySortedBy R (keys_of fs)
+  set_ordered es fs row many is sorted = subst (IsStrictlySortedBy R) (sym (ap keys_of is ∙ keys-set_value (is_at (R row)) es many)) sorted
+
+  pub raised_new : (es mid fs : List (K × ℕ)) (row copy : K) → lookup (is_at (R row)) es ≡ None → mid ≡ es → copy ≡ row → ((q : K) → lookup (is_at (R q)) fs ≡ cond (is_at (R copy) q) (Some 1) (lookup (is_at (R q)) mid))
+      → (q : K) → lookup (is_at (R q)) fs ≡ cond (is_at (R row) q) (Some (shelf_count R es row + 1)) (lookup (is_at (R q)) es)
+  raised_new es mid fs row copy was mid_is copy_is is q =
+      is q
+      ∙ ap (λ x. cond (is_at (R x) q) (Some 1) (lookup (is_at (R q)) mid)) copy_is
+      ∙ ap (λ l. cond (is_at (R row) q) (Some 1) (lookup (is_at (R q)) l)) mid_is
+      ∙ ap (λ (n : ℕ). cond (is_at (R row) q) (Some (n + 1)) (lookup (is_at (R q)) es)) (sym (ap (λ (f : Option ℕ). unwrap_or f 0) was))
+
+  pub put_at_count : (es fs : List (K × ℕ)) (row : K) (many : ℕ) → ((q : K) → lookup (is_at (R q)) fs ≡ cond (is_at (R row) q) (Some many) (lookup (is_at (R q)) es))
+      → (q : K) → shelf_count R fs q ≡ cond (is_at (R row) q) many (shelf_count R es q)
+  put_at_count es fs row many is q = ap (λ found. unwrap_or found 0) (is q) ∙ two (is_at (R row) q) (lookup (is_at (R q)) es)
+    where
+      two : (b : Bool) (found : Option ℕ) → unwrap_or (cond b (Some many) found) 0 ≡ cond b many (unwrap_or found 0)
+      two true found = refl
+      two false found = refl
+
+  -- what a look-up found, as a count
+  pub found_count : (es : List (K × ℕ)) (row : K) (many : ℕ) → Some many ≡ lookup (is_at (R row)) es → many ≡ shelf_count R es row
+  found_count es row many found = ap (λ f. unwrap_or f 0) found
+
+  pub none_count : (es : List (K × ℕ)) (row : K) → None ≡ lookup (is_at (R row)) es → 0 ≡ shelf_count R es row
+  none_count es row found = ap (λ f. unwrap_or f 0) found
 
   -- ---- whether each row is on another shelf
 

@@ -1,5 +1,5 @@
 -- What a node keeps follows a change of its inputs.
-use Rattle.std.proofs.Common.{◌≡◌, ◌<◌, ◌+◌, ◌-◌, ◌⊎◌, inl, inr, ⊎_elim, ℕ, zero, suc, Bool, true, false, cond, not, ◌&&◌, List, [], ◌∷◌, map, refl, sym, ap, ◌∙◌, subst, length, nat_eq, nat_lt, arith}
+use Rattle.std.proofs.Common.{◌≡◌, ◌+◌, ◌-◌, inl, ⊎_elim, ℕ, Bool, true, false, cond, not, ◌&&◌, List, [], ◌∷◌, refl, sym, ap, ◌∙◌, subst, length, arith}
 use Rattle.std.specs.declared.cmp.Ordering.{Ordering}
 use Rattle.std.specs.Ordering.{eq_by_cmp}
 use Rattle.std.specs.Cmp.{IsTotalOrder, both_ways, eq_by_cmp_equiv}
@@ -15,7 +15,7 @@ use Rattle.dbn_value.proofs.SetLaws.{size_listed, listed_kept, listed_set_of_sor
 use Rattle.dbn_value.proofs.AscendingLaws.{insert_key_new, insert_key_old, in_insert_key, sorted_insert_key, same_members}
 use Rattle.dbn_nodes.specs.Tables.{choose, count_at, has}
 use Rattle.dbn_nodes.specs.Stands.{IsIndex}
-use Rattle.dbn_nodes.proofs.ChangeLaws.{Adds, Moves, rows_exact, row_in_rows, in_row, not_row, row_not, itself, same_row}
+use Rattle.dbn_nodes.proofs.ChangeLaws.{Adds, Moves, rows_exact, row_in_rows, in_row, not_row, itself, same_row}
 
 module _ {C : Type 0} {R : C → C → Ordering} (o : IsTotalOrder R) (exact : IsAntisymmetric R) where
   pub was_there : (b : Bool) (s z : List (List C)) (r : List C) → Moves b s (r ∷ []) z → has (slice_cmp R) s r ≡ not b

@@ -1,13 +1,12 @@
 -- What one more row of an input adds to a node's value.
-use Rattle.std.proofs.Common.{◌≡◌, ◌<◌, ◌+◌, ◌⊎◌, inl, inr, ⊎_elim, ℕ, zero, suc, Bool, true, false, cond, not, ◌&&◌, List, [], ◌∷◌, ◌++◌, map, refl, sym, ap, ◌∙◌, subst, Option, Some, None, length, take, drop, arith}
+use Rattle.std.proofs.Common.{◌≡◌, ◌<◌, ◌⊎◌, inl, inr, ⊎_elim, ℕ, Bool, true, false, not, List, [], ◌∷◌, ◌++◌, map, refl, sym, ap, ◌∙◌, subst, Option, Some, None, length, take, drop, arith}
 use Rattle.std.specs.Prelude.{slice_get}
 use Rattle.std.specs.declared.cmp.Ordering.{Ordering}
-use Rattle.std.specs.Ordering.{eq_by_cmp, is_eq}
+use Rattle.std.specs.Ordering.{is_eq}
 use Rattle.std.specs.Cmp.{IsTotalOrder, Equal-is, tied_itself}
 use Rattle.std.specs.Cmp.Lexicographic.{slice_cmp, lists_total}
 use Rattle.std.specs.FinMap.{IsAntisymmetric}
 use Rattle.std.specs.List.{filter, flat_map, cons_option}
-use Rattle.std.specs.List.Sorted.{IsStrictlySortedBy}
 use Rattle.std.proofs.lemmas.Bool.{true≢false, and_parts, and_from}
 use Rattle.std.proofs.lemmas.Option.{slice_get_cases}
 use Rattle.std.proofs.Math.Seq.{take-append_seam, drop-append_seam}
@@ -19,9 +18,9 @@ use Rattle.dbn_value.proofs.MemberLaws.{in_filter, filter_in, in_append, append_
 use Rattle.dbn_value.proofs.AscendingLaws.{in_ascending, ascending_in, in_images, images_in}
 use Rattle.dbn_nodes.specs.Tables.{has}
 use Rattle.dbn_nodes.specs.Changes.{maybe}
-use Rattle.dbn_nodes.specs.Values.{cells_meet, matched, joined, without, projected, either, extended, added_cells}
+use Rattle.dbn_nodes.specs.Values.{cells_meet, matched, joined, without}
 use Rattle.dbn_nodes.specs.Stands.{firsts, seconds, PairsIn, AreOneWide}
-use Rattle.dbn_nodes.proofs.ChangeLaws.{Apart, Adds, rows_exact, row_in_rows, in_row, row_not}
+use Rattle.dbn_nodes.proofs.ChangeLaws.{Apart, Adds, rows_exact, row_in_rows, in_row}
 
 pub alone : {A : Type 0} (b : Bool) (x : A) → Apart (maybe b x)
 alone true x = (λ none. none, tt)

@@ -1,5 +1,5 @@
 -- What a node answers from what it keeps. R is the order of cells.
-use Rattle.std.specs.Prelude.{◌≡◌, ◌++◌, ℕ, List, [], map}
+use Rattle.std.specs.Prelude.{◌≡◌, ◌++◌, ℕ, List, map}
 use Rattle.std.specs.declared.cmp.Ordering.{Ordering}
 use Rattle.std.specs.Cmp.Lexicographic.{slice_cmp}
 use Rattle.std.specs.List.{filter, flat_map}
@@ -9,7 +9,6 @@ use Rattle.dbn_value.specs.Picked.{picked}
 use Rattle.dbn_nodes.specs.declared.node.Node.{Node}
 use Rattle.dbn_nodes.specs.declared.node.Node.TheVariants as node
 use Rattle.dbn_nodes.specs.declared.state.Kept.{Kept}
-use Rattle.dbn_nodes.specs.Tables.{has}
 use Rattle.dbn_nodes.specs.Values.{matched, value_of}
 use Rattle.dbn_nodes.specs.Stands.{seconds, PairsIn, IsIndex, Stands, Good}
 

@@ -70,16 +70,13 @@ pub(crate) fn count_again<C: Cell, L: Ledger>(
     ensures cost { OnOk result (steps.new ≡ steps.old + 2) }
 {
     let key = Row::from_vec(Vec::new(alloc));
-    let many = table.count(&key, row, steps);
     if comes {
-        if many == u64::MAX {
-            return Err(AllocError);
-        }
-        table.set(alloc, key, row.copy_in(alloc)?, many + 1, steps)?;
+        let many = table.raise(alloc, &key, row, steps)?;
         return Ok(many == 0);
     }
+    let many = table.take(&key, row, steps);
     if many <= 1 {
-        table.remove(&key, row, steps);
+        steps.tick();
         return Ok(many == 1);
     }
     table.set(alloc, key, row.copy_in(alloc)?, many - 1, steps)?;

@@ -1,15 +1,15 @@
-ghost use Rattle.std.specs.Prelude.{◌≡◌, ◌+◌, ◌<◌, ◌&&◌, ◌↔◌, ◌++◌, List, [], if◌then◌else◌, map, length, None, IfOk, OnOk, OnErr, IsTrue};
+ghost use Rattle.std.specs.Prelude.{◌≡◌, ◌+◌, ◌<◌, ◌&&◌, ◌↔◌, ◌++◌, List, [], if◌then◌else◌, map, length, ℕ, None, Some, IfOk, OnOk, OnErr, IsTrue};
 ghost use Rattle.std.specs.Ordering.{eq_by_cmp};
 ghost use Rattle.std.specs.Cmp.Lexicographic.{slice_cmp};
 ghost use Rattle.std.specs.Map.{lookup};
 ghost use Rattle.std.specs.BTreeMap.{is_at};
-ghost use Rattle.dbn_nodes.specs.Tables.{count_at, AreRowsOf};
+ghost use Rattle.dbn_nodes.specs.Tables.{shelf_count, count_at, AreRowsOf};
 ghost use Rattle.dbn_nodes.specs.Changes.{signed, paired};
 
 use super::event::Events;
 use super::shelf::{Shelf, Way};
 use super::steps::Steps;
-use dbn_value::{Cell, Row, RowsOf};
+use dbn_value::{Cell, CopyIn, Row, RowsOf};
 use sqlite_items::Items;
 use std::alloc::{AllocError, Global};
 use std::collections::BTreeMap;
@@ -109,26 +109,68 @@ impl<C: Cell> Keyed<C> {
         }
     }
 
-    /// Takes the row under the key out, and tells whether it was there; all other counts stay. It takes one step.
-    pub fn remove<L: Ledger>(&mut self, key: &Row<C>, row: &Row<C>, steps: &mut Steps<L>) -> bool
-        ensures there { IsTrue result ↔ (0 < count_at (slice_cmp C.cmp) self.old key.now row.now) }
+    /// Counts the row under the key once more and tells its count before; all other counts stay. A row that is there is searched
+    /// once and not copied. It takes two steps, those of a look-up and a change. An error is want of memory, or a
+    /// count that would pass 2^64-1.
+    pub(crate) fn raise<L: Ledger>(
+        &mut self,
+        alloc: Global,
+        key: &Row<C>,
+        row: &Row<C>,
+        steps: &mut Steps<L>,
+    ) -> Result<u64, AllocError>
+        ensures told { IfOk result (λ many. many ≡ count_at (slice_cmp C.cmp) self.old key.now row.now) }
+        ensures counts { OnOk result ((k r : List C) → count_at (slice_cmp C.cmp) self.new k r ≡ (if eq_by_cmp (slice_cmp C.cmp) key.now k && eq_by_cmp (slice_cmp C.cmp) row.now r then count_at (slice_cmp C.cmp) self.old key.now row.now + 1 else count_at (slice_cmp C.cmp) self.old k r)) }
+        ensures cost { steps.new ≡ steps.old + 2 }
+    {
+        steps.tick();
+        steps.tick();
+        match self.shelves.get_mut(key) {
+            Some(shelf) => {
+                let many = shelf.raise(alloc, row)?;
+                return Ok(many);
+            }
+            None => {
+                first_row(alloc, &mut self.shelves, key, row)?;
+                return Ok(0);
+            }
+        }
+    }
+
+    /// Takes the row under the key out, and tells its count, in one search; all other counts stay. It takes one step.
+    pub(crate) fn take<L: Ledger>(
+        &mut self,
+        key: &Row<C>,
+        row: &Row<C>,
+        steps: &mut Steps<L>,
+    ) -> u64
+        ensures told { result ≡ count_at (slice_cmp C.cmp) self.old key.now row.now }
         ensures counts { (k r : List C) → count_at (slice_cmp C.cmp) self.new k r ≡ (if eq_by_cmp (slice_cmp C.cmp) key.now k && eq_by_cmp (slice_cmp C.cmp) row.now r then 0 else count_at (slice_cmp C.cmp) self.old k r) }
         ensures cost { steps.new ≡ steps.old + 1 }
     {
         steps.tick();
         match self.shelves.get_mut(key) {
             Some(shelf) => {
-                let there = shelf.count(row) > 0;
-                let last = shelf.remove(row);
+                let taken = shelf.take(row);
+                let last = taken.last;
                 if last {
                     take_out(&mut self.shelves, key);
                 }
-                return there;
+                return taken.many;
             }
             None => {
-                return false;
+                return 0;
             }
         }
+    }
+
+    /// Takes the row under the key out, and tells whether it was there; all other counts stay. It takes one step.
+    pub fn remove<L: Ledger>(&mut self, key: &Row<C>, row: &Row<C>, steps: &mut Steps<L>) -> bool
+        ensures there { IsTrue result ↔ (0 < count_at (slice_cmp C.cmp) self.old key.now row.now) }
+        ensures counts { (k r : List C) → count_at (slice_cmp C.cmp) self.new k r ≡ (if eq_by_cmp (slice_cmp C.cmp) key.now k && eq_by_cmp (slice_cmp C.cmp) row.now r then 0 else count_at (slice_cmp C.cmp) self.old k r) }
+        ensures cost { steps.new ≡ steps.old + 1 }
+    {
+        self.take(key, row, steps) > 0
     }
 
     /// The rows under the key, ascending. It takes one step, and one more for each row. An error is want of memory.
@@ -185,4 +227,20 @@ fn take_out<C: Cell>(shelves: &mut BTreeMap<Row<C>, Shelf<C>>, key: &Row<C>)
     ensures { (q : List C) → lookup (is_at (slice_cmp C.cmp q)) shelves.new.entries ≡ (if is_at (slice_cmp C.cmp key.now) q then None else lookup (is_at (slice_cmp C.cmp q)) shelves.old.entries) }
 {
     shelves.remove(key);
+}
+
+/// Puts a key in that was not there, with a row of count 1.
+fn first_row<C: Cell>(
+    alloc: Global,
+    shelves: &mut BTreeMap<Row<C>, Shelf<C>>,
+    key: &Row<C>,
+    row: &Row<C>,
+) -> Result<(), AllocError>
+    ensures ok { OnOk result ((shelf : List (List C × ℕ)) × ((r : List C) → shelf_count (slice_cmp C.cmp) shelf r ≡ (if is_at (slice_cmp C.cmp row.now) r then 1 else 0)) × ((k : List C) → lookup (is_at (slice_cmp C.cmp k)) shelves.new.entries ≡ (if is_at (slice_cmp C.cmp key.now) k then Some shelf else lookup (is_at (slice_cmp C.cmp k)) shelves.old.entries))) }
+    ensures err { OnErr result (shelves.new.entries ≡ shelves.old.entries) }
+{
+    let own = key.copy_in(alloc)?;
+    let first = row.copy_in(alloc)?;
+    shelves.insert(own, Shelf::one(first, 1))?;
+    Ok(())
 }

@@ -1,8 +1,9 @@
-ghost use Rattle.std.specs.Prelude.{◌≡◌, ◌+◌, ◌<◌, ◌++◌, ◌↔◌, List, [], ◌∷◌, if◌then◌else◌, true, false, map, length, nat_lt, IfOk, OnOk, OnErr, IsTrue};
+ghost use Rattle.std.specs.Prelude.{◌≡◌, ◌+◌, ◌<◌, ◌++◌, ◌↔◌, List, [], ◌∷◌, if◌then◌else◌, true, false, None, Some, map, length, nat_lt, IfOk, OnOk, OnErr, IsTrue};
 ghost use Rattle.std.specs.List.{list_all};
+ghost use Rattle.std.specs.List.Sorted.{IsStrictlySortedBy};
 ghost use Rattle.std.specs.Cmp.Lexicographic.{slice_cmp};
 ghost use Rattle.std.specs.BTreeMap.{is_at};
-ghost use Rattle.std.specs.Map.{keys_of};
+ghost use Rattle.std.specs.Map.{keys_of, lookup};
 ghost use Rattle.dbn_nodes.specs.Tables.{shelf_count, IsShelf, IsFilled};
 ghost use Rattle.dbn_nodes.specs.Changes.{signed, paired};
 
@@ -79,10 +80,7 @@ impl<C: Cell> Shelf<C> {
                     *held = many;
                     return Ok(());
                 }
-                let first = own.copy_in(alloc)?;
-                let mut rows = BTreeMap::new(alloc);
-                rows.insert(first, *held)?;
-                rows.insert(row, many)?;
+                let rows = both_rows(alloc, own, *held, row, many)?;
                 self.inner = Inner::Many(rows);
                 Ok(())
             }
@@ -93,21 +91,51 @@ impl<C: Cell> Shelf<C> {
         }
     }
 
-    /// Takes the row out. With `true` no other row is there, and the shelf is to be let go.
-    pub(crate) fn remove(&mut self, row: &Row<C>) -> bool
-        ensures gone { result ≡ true → (q : List C) → shelf_count (slice_cmp C.cmp) self.old q ≡ (if is_at (slice_cmp C.cmp row.now) q then shelf_count (slice_cmp C.cmp) self.old row.now else 0) }
-        ensures left { result ≡ false → (q : List C) → shelf_count (slice_cmp C.cmp) self.new q ≡ (if is_at (slice_cmp C.cmp row.now) q then 0 else shelf_count (slice_cmp C.cmp) self.old q) }
-        ensures some { result ≡ false → IsFilled (slice_cmp C.cmp) self.new }
+    /// Counts the row once more and tells its count before. A row that is there is searched once and not copied. An error is want
+    /// of memory, or a count that would pass 2^64-1, and then nothing changed.
+    pub(crate) fn raise(&mut self, alloc: Global, row: &Row<C>) -> Result<u64, AllocError>
+        ensures told { IfOk result (λ many. many ≡ shelf_count (slice_cmp C.cmp) self.old row.now) }
+        ensures ok { OnOk result ((q : List C) → shelf_count (slice_cmp C.cmp) self.new q ≡ (if is_at (slice_cmp C.cmp row.now) q then shelf_count (slice_cmp C.cmp) self.old row.now + 1 else shelf_count (slice_cmp C.cmp) self.old q)) }
+        ensures err { OnErr result (self.new ≡ self.old) }
     {
         match &mut self.inner {
-            Inner::One(own, _) => {
-                let same = row.cmp(own).is_eq();
-                return same;
+            Inner::One(own, held) => {
+                if row.cmp(own).is_eq() {
+                    let many = *held;
+                    if many == u64::MAX {
+                        return Err(AllocError);
+                    }
+                    *held = many + 1;
+                    return Ok(many);
+                }
+                let rows = both_rows(alloc, own, *held, row.copy_in(alloc)?, 1)?;
+                self.inner = Inner::Many(rows);
+                Ok(0)
             }
             Inner::Many(rows) => {
-                rows.remove(row);
+                let many = raise_in(alloc, rows, row)?;
+                Ok(many)
+            }
+        }
+    }
+
+    /// Takes the row out and tells its count, in one search. Where no other row is there, the shelf is to be let go.
+    pub(crate) fn take(&mut self, row: &Row<C>) -> Taken
+        ensures told { result.many ≡ shelf_count (slice_cmp C.cmp) self.old row.now }
+        ensures gone { result.last ≡ true → (q : List C) → shelf_count (slice_cmp C.cmp) self.old q ≡ (if is_at (slice_cmp C.cmp row.now) q then shelf_count (slice_cmp C.cmp) self.old row.now else 0) }
+        ensures left { result.last ≡ false → (q : List C) → shelf_count (slice_cmp C.cmp) self.new q ≡ (if is_at (slice_cmp C.cmp row.now) q then 0 else shelf_count (slice_cmp C.cmp) self.old q) }
+        ensures some { result.last ≡ false → IsFilled (slice_cmp C.cmp) self.new }
+    {
+        match &mut self.inner {
+            Inner::One(own, held) => {
+                let same = row.cmp(own).is_eq();
+                let many = count_if(same, *held);
+                return Taken { many, last: same };
+            }
+            Inner::Many(rows) => {
+                let many = rows.remove(row).unwrap_or(0);
                 let empty = rows.is_empty();
-                return empty;
+                return Taken { many, last: empty };
             }
         }
     }
@@ -169,6 +197,67 @@ impl<C: Cell> Shelf<C> {
                 push_pairs(alloc, row, all, way, out, steps)?;
                 return Ok(());
             }
+        }
+    }
+}
+
+/// What a row that is taken out of a shelf had, and left.
+#[derive(Clone, Copy, Debug)]
+pub(crate) struct Taken {
+    /// Its count, 0 where it was not there.
+    pub many: u64,
+    /// Whether no other row was there.
+    pub last: bool,
+}
+
+/// The count of a row that is there.
+fn count_if(there: bool, many: u64) -> u64
+    ensures { result ≡ (if there then many else 0) }
+{
+    if there { many } else { 0 }
+}
+
+/// A row of a shelf and another one, with their counts.
+fn both_rows<C: Cell>(
+    alloc: Global,
+    own: &Row<C>,
+    held: u64,
+    row: Row<C>,
+    many: u64,
+) -> Result<BTreeMap<Row<C>, u64>, AllocError>
+    ensures found { IfOk result (λ rows. (q : List C) → lookup (is_at (slice_cmp C.cmp q)) rows.entries ≡ (if is_at (slice_cmp C.cmp row) q then Some many else (if is_at (slice_cmp C.cmp own.now) q then Some held else None))) }
+    ensures ordered { IfOk result (λ rows. IsStrictlySortedBy (slice_cmp C.cmp) (keys_of rows.entries)) }
+{
+    let first = own.copy_in(alloc)?;
+    let mut rows = BTreeMap::new(alloc);
+    rows.insert(first, held)?;
+    rows.insert(row, many)?;
+    Ok(rows)
+}
+
+/// Counts the row once more and tells its count before.
+fn raise_in<C: Cell>(
+    alloc: Global,
+    rows: &mut BTreeMap<Row<C>, u64>,
+    row: &Row<C>,
+) -> Result<u64, AllocError>
+    ensures told { IfOk result (λ many. many ≡ shelf_count (slice_cmp C.cmp) rows.old.entries row.now) }
+    ensures found { OnOk result ((q : List C) → lookup (is_at (slice_cmp C.cmp q)) rows.new.entries ≡ (if is_at (slice_cmp C.cmp row.now) q then Some (shelf_count (slice_cmp C.cmp) rows.old.entries row.now + 1) else lookup (is_at (slice_cmp C.cmp q)) rows.old.entries)) }
+    ensures err { OnErr result (rows.new.entries ≡ rows.old.entries) }
+    ensures ordered { OnOk result (IsStrictlySortedBy (slice_cmp C.cmp) (keys_of rows.new.entries)) }
+{
+    match rows.get_mut(row) {
+        Some(count) => {
+            let many = *count;
+            if many == u64::MAX {
+                return Err(AllocError);
+            }
+            *count = many + 1;
+            return Ok(many);
+        }
+        None => {
+            rows.insert(row.copy_in(alloc)?, 1)?;
+            return Ok(0);
         }
     }
 }

@@ -1,4 +1,3 @@
-use Rattle.std.proofs.Common.{rules, ◌≡◌, ◌++◌, ◌∙◌, ap, sym}
 use Rattle.dbn_value.proofs.ListLaws.{in_at}
 use Rattle.dbn_nodes.proofs.AnswerLaws.{join_step}
 use Rattle.dbn_nodes.proofs.answering.joined_rows.Goals as goal

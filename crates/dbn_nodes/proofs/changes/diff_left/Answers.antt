@@ -1,4 +1,4 @@
-use Rattle.std.proofs.Common.{rules, ◌≡◌, ◌++◌, ◌∙◌, [], refl, sym, ap, map, not, nat_lt}
+use Rattle.std.proofs.Common.{rules, ◌≡◌, ◌++◌, ◌∙◌, [], refl, ap, map, not, nat_lt}
 use Rattle.std.specs.Cmp.Lexicographic.{slice_cmp}
 use Rattle.dbn_nodes.specs.Changes.{row_in, comes, signed, maybe}
 use Rattle.dbn_nodes.specs.Tables.{count_at}

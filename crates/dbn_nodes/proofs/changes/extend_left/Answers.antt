@@ -1,8 +1,5 @@
-use Rattle.std.proofs.Common.{rules, ◌≡◌, ◌++◌, ◌∙◌, ◌==◌, [], refl, sym, ap, map, true}
-use Rattle.std.specs.Cmp.Lexicographic.{slice_cmp}
-use Rattle.dbn_value.specs.Picked.{picked}
+use Rattle.std.proofs.Common.{rules, ◌≡◌, ◌++◌, map, true}
 use Rattle.dbn_nodes.specs.Changes.{row_in, comes, signed, maybe}
-use Rattle.dbn_nodes.specs.Tables.{count_at, choose}
 use Rattle.dbn_nodes.specs.Values.{added_cells}
 use Rattle.dbn_nodes.proofs.NodeLaws.{extend_leads}
 use Rattle.dbn_nodes.proofs.changes.extend_left.Goals as goal

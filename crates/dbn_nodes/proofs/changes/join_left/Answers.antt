@@ -1,9 +1,4 @@
-use Rattle.std.proofs.Common.{rules, ◌≡◌, ◌++◌, ◌∙◌, refl, ap, map}
-use Rattle.std.specs.Cmp.Lexicographic.{slice_cmp}
-use Rattle.dbn_value.specs.Picked.{picked}
-use Rattle.dbn_nodes.specs.Changes.{row_in, comes, signed}
-use Rattle.dbn_nodes.specs.Tables.{AreRowsOf}
-use Rattle.dbn_nodes.specs.Stands.{firsts}
+use Rattle.std.proofs.Common.{refl}
 use Rattle.dbn_nodes.proofs.NodeLaws.{join_left_leads, join_left_stands}
 use Rattle.dbn_nodes.proofs.changes.join_left.Goals as goal
 

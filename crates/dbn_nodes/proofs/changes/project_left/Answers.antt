@@ -1,9 +1,8 @@
-use Rattle.std.proofs.Common.{rules, ◌≡◌, ◌++◌, ◌∙◌, ◌==◌, [], refl, sym, ap, map, true}
+use Rattle.std.proofs.Common.{rules, ◌≡◌, ◌++◌, ◌==◌, [], map}
 use Rattle.std.specs.Cmp.Lexicographic.{slice_cmp}
 use Rattle.dbn_value.specs.Picked.{picked}
 use Rattle.dbn_nodes.specs.Changes.{row_in, comes, signed, maybe}
 use Rattle.dbn_nodes.specs.Tables.{count_at, choose}
-use Rattle.dbn_nodes.specs.Values.{added_cells}
 use Rattle.dbn_nodes.proofs.NodeLaws.{project_leads, project_stands}
 use Rattle.dbn_nodes.proofs.changes.project_left.Goals as goal
 

@@ -1,4 +1,4 @@
-use Rattle.std.proofs.Common.{rules, ◌≡◌, ◌++◌, ◌∙◌, ap, map, true}
+use Rattle.std.proofs.Common.{rules, ◌≡◌, ◌++◌, map, true}
 use Rattle.dbn_nodes.specs.Changes.{row_in, comes, signed, maybe}
 use Rattle.dbn_nodes.proofs.NodeLaws.{scan_leads}
 use Rattle.dbn_nodes.proofs.changes.scan_left.Goals as goal

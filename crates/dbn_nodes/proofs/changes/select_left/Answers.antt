@@ -1,4 +1,4 @@
-use Rattle.std.proofs.Common.{rules, ◌≡◌, ◌++◌, ◌∙◌, ap, map}
+use Rattle.std.proofs.Common.{rules, ◌≡◌, ◌++◌, map}
 use Rattle.std.specs.List.{list_all}
 use Rattle.dbn_nodes.specs.Changes.{row_in, comes, signed, maybe}
 use Rattle.dbn_nodes.specs.Values.{passes}

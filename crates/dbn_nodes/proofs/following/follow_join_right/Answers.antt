@@ -1,6 +1,4 @@
-use Rattle.std.proofs.Common.{◌∙◌, refl, ap}
-use Rattle.dbn_value.specs.Picked.{picked}
-use Rattle.dbn_nodes.specs.Stands.{seconds}
+use Rattle.std.proofs.Common.{refl}
 use Rattle.dbn_nodes.proofs.NodeLaws.{join_right_stands}
 use Rattle.dbn_nodes.proofs.following.follow_join_right.Goals as goal
 

@@ -1,4 +1,4 @@
-use Rattle.std.proofs.Common.{◌≡◌, ◌++◌, ◌∙◌, [], take, sym, ap}
+use Rattle.std.proofs.Common.{◌++◌, ◌∙◌, [], take, sym, ap}
 use Rattle.std.specs.List.{cons_option}
 use Rattle.std.specs.Option.{option_copied}
 use Rattle.dbn_value.specs.Picked.{picked}

@@ -1,11 +1,11 @@
-use Rattle.std.proofs.Common.{◌≡◌, ℕ, sym, ap, ◌∙◌, subst, cond, true}
+use Rattle.std.proofs.Common.{sym, ap, ◌∙◌, cond}
 use Rattle.std.specs.Ordering.{is_eq}
 use Rattle.std.specs.BTreeMap.{is_at}
 use Rattle.std.specs.Cmp.Lexicographic.{slice_cmp, lists_total}
 use Rattle.std.specs.FinMap.{slice_cmp-IsAntisymmetric}
 use Rattle.dbn_nodes.specs.Tables.{shelf_count}
 use Rattle.dbn_nodes.specs.Entries.{entries_in}
-use Rattle.dbn_nodes.proofs.ShelfLaws.{one_changed, filled_put, one_held}
+use Rattle.dbn_nodes.proofs.ShelfLaws.{one_changed, filled_put, one_held, two_count, two_filled}
 use Rattle.dbn_nodes.proofs.shelf.Shelf.set.Goals as goal
 
 pub returns-then-is_eq-clause-ok : goal.returns-then-is_eq-clause-ok
@@ -14,15 +14,19 @@ returns-then-is_eq-clause-ok g c =
     (ap is_eq (sym c.cmp.ensures) ∙ sym c.is_eq.ensures ∙ c.if-is_eq.true) q
     ∙ ap (λ es. cond (is_at (slice_cmp g.C.Ord.cmp c.args.row) q) c.args.many (shelf_count (slice_cmp g.C.Ord.cmp) es q)) (sym (sym c.self.view_is ∙ ap entries_in c.in-One.is))
 
+pub returns-in_ok-rows-in-One-clause-ok : goal.returns-in_ok-rows-in-One-clause-ok
+returns-in_ok-rows-in-One-clause-ok g c =
+    λ q. two_count (lists_total g.met.C.Ord.total) (slice_cmp-IsAntisymmetric g.met.C.Cell.exact) c.in_ok-rows-in-One.rows.entries c.args.row c.in-One.own c.args.many c.in-One.held c.in_ok-rows-in-One.ensures.found q
+    ∙ ap (λ es. cond (is_at (slice_cmp g.C.Ord.cmp c.args.row) q) c.args.many (shelf_count (slice_cmp g.C.Ord.cmp) es q)) (sym (sym c.self.view_is ∙ ap entries_in c.in-One.is))
+
 pub invariant_of-self-in-One : goal.invariant_of-self-in-One
 invariant_of-self-in-One g c =
-    let first = filled_put (lists_total g.met.C.Ord.total) (slice_cmp-IsAntisymmetric g.met.C.Cell.exact) c.new-rows.result.entries c.insert.new.self.entries c.in_ok-first-in-One.first c.in-One.held
-    (let inv = rw c.in-One.is at c.self.invariant in one_held (lists_total g.met.C.Ord.total) (slice_cmp-IsAntisymmetric g.met.C.Cell.exact) c.in-One.own c.in-One.held inv) c.in_ok-insert-in-One.ensures.updates.0 (λ q. rw c.new-rows.ensures.empty tt) c.in_ok-insert-in-One.ensures.ordered in
-    filled_put (lists_total g.met.C.Ord.total) (slice_cmp-IsAntisymmetric g.met.C.Cell.exact) c.insert.new.self.entries c.insert-in-One.new.self.entries c.args.row c.args.many c.requires.some
-    c.in_ok-insert-in-One-2.ensures.updates.0 first.filled c.in_ok-insert-in-One-2.ensures.ordered
+    let inv = rw c.in-One.is at c.self.invariant in
+    two_filled (lists_total g.met.C.Ord.total) (slice_cmp-IsAntisymmetric g.met.C.Cell.exact) c.in_ok-rows-in-One.rows.entries c.args.row c.in-One.own c.args.many c.in-One.held c.requires.some
+    (one_held (lists_total g.met.C.Ord.total) (slice_cmp-IsAntisymmetric g.met.C.Cell.exact) c.in-One.own c.in-One.held inv) c.in_ok-rows-in-One.ensures.found c.in_ok-rows-in-One.ensures.ordered
 
 pub invariant_of-self-in-Many : goal.invariant_of-self-in-Many
 invariant_of-self-in-Many g c =
     let inv = rw c.in-Many.is at c.self.invariant in
-    filled_put (lists_total g.met.C.Ord.total) (slice_cmp-IsAntisymmetric g.met.C.Cell.exact) c.in-Many.rows.entries c.insert-in-Many.new.self.entries c.args.row c.args.many c.requires.some
+    filled_put (lists_total g.met.C.Ord.total) (slice_cmp-IsAntisymmetric g.met.C.Cell.exact) c.in-Many.rows.entries c.insert.new.self.entries c.args.row c.args.many c.requires.some
     c.in_ok-insert-in-Many.ensures.updates.0 inv.filled c.in_ok-insert-in-Many.ensures.ordered

@@ -1,4 +1,4 @@
-use Rattle.std.proofs.Common.{◌≡◌, ◌∙◌, ap}
+use Rattle.std.proofs.Common.{◌∙◌}
 use Rattle.dbn_nodes.proofs.AnswerLaws.{unit_has, diff_has, project_has, union_has}
 use Rattle.dbn_nodes.proofs.state.NodeState.has.Goals as goal
 

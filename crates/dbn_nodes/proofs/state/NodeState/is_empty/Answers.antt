@@ -1,4 +1,3 @@
-use Rattle.std.proofs.Common.{◌≡◌}
 use Rattle.dbn_nodes.proofs.AnswerLaws.{project_empty, union_empty, diff_empty, both_then}
 use Rattle.dbn_nodes.proofs.state.NodeState.is_empty.Goals as goal
 

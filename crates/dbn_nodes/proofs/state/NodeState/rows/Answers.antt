@@ -1,5 +1,4 @@
-use Rattle.std.proofs.Common.{◌≡◌, ◌∙◌, ap}
-use Rattle.std.specs.Cmp.Lexicographic.{slice_cmp}
+use Rattle.std.proofs.Common.{◌∙◌, ap}
 use Rattle.dbn_nodes.specs.Values.{selected, joined, extended}
 use Rattle.dbn_nodes.proofs.AnswerLaws.{project_rows, union_rows, diff_rows, joins_with}
 use Rattle.dbn_nodes.proofs.state.NodeState.rows.Goals as goal
