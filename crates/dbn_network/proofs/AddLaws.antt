@@ -1,5 +1,5 @@
 -- A network with one more node.
-use Rattle.std.proofs.Common.{◌≡◌, ◌<◌, ◌≤◌, ◌+◌, ℕ, zero, suc, ◌⊎◌, inl, inr, ⊎_elim, Bool, true, false, List, [], ◌∷◌, ◌++◌, refl, ap, sym, ◌∙◌, subst, length, take, get_or, map, arith}
+use Rattle.std.proofs.Common.{◌≡◌, ◌<◌, ◌≤◌, ◌+◌, ℕ, suc, ◌⊎◌, inl, inr, ⊎_elim, true, List, [], ◌∷◌, ◌++◌, refl, ap, sym, ◌∙◌, subst, length, take, get_or, map, arith}
 use Rattle.std.proofs.lemmas.Bool.{cases_lt, cases_eq}
 use Rattle.std.specs.Prelude.{slice_set}
 use Rattle.std.specs.declared.cmp.Ordering.{Ordering}
@@ -11,7 +11,6 @@ use Rattle.std.proofs.Math.Seq.{get_or-append_seam}
 use Rattle.dbn_value.specs.declared.value.ColType.{ColType}
 use Rattle.dbn_value.proofs.ListLaws.{take_more}
 use Rattle.dbn_value.proofs.AscendingLaws.{sorted_nil}
-use Rattle.dbn_value.specs.Members.{In}
 use Rattle.dbn_value.proofs.MemberLaws.{in_map}
 use Rattle.std.specs.List.Sorted.{IsStrictlySortedBy}
 use Rattle.dbn_nodes.specs.declared.node.Node.{Node}
@@ -19,7 +18,7 @@ use Rattle.dbn_nodes.specs.declared.event.Event.{Event}
 use Rattle.dbn_nodes.specs.declared.state.Kept.{Kept}
 use Rattle.dbn_nodes.specs.Changes.{row_in, signed, Leads}
 use Rattle.dbn_nodes.specs.Stands.{Stands, FollowsLeft, FollowsRight}
-use Rattle.dbn_nodes.proofs.ChangeLaws.{Adds, plus_all}
+use Rattle.dbn_nodes.proofs.ChangeLaws.{plus_all}
 use Rattle.dbn_nodes.proofs.NodeLaws.{sorted_apart}
 use Rattle.dbn_network.specs.declared.held.Held.{Held}
 use Rattle.dbn_network.specs.declared.input.Input.{Input}

@@ -1,10 +1,10 @@
 -- How many steps a pass takes at most.
-use Rattle.std.proofs.Common.{◌≡◌, ◌<◌, ◌≤◌, ◌+◌, ◌*◌, ◌==◌, ℕ, zero, suc, ◌⊎◌, inl, inr, ⊎_elim, Bool, true, false, cond, List, [], ◌∷◌, ◌++◌, map, refl, sym, ap, ◌∙◌, subst, length, take, get_or, max, zero-add, add-zero, le_trans, arith}
-use Rattle.std.proofs.Math.Nat.{le-max_left, le-max_right}
+use Rattle.std.proofs.Common.{◌≡◌, ◌<◌, ◌≤◌, ◌+◌, ◌*◌, ◌==◌, ℕ, suc, ⊎_elim, Bool, true, false, cond, List, [], ◌∷◌, ◌++◌, refl, sym, ap, ◌∙◌, subst, length, take, get_or, max, zero-add, add-zero, le_trans, arith}
+use Rattle.std.proofs.Math.Nat.{le-max_right}
 use Rattle.std.proofs.lemmas.Bool.{cases_eq}
 use Rattle.std.specs.declared.cmp.Ordering.{Ordering}
 use Rattle.std.specs.List.{sum_by}
-use Rattle.std.proofs.lemmas.List.{get_or_append_left, length-append}
+use Rattle.std.proofs.lemmas.List.{get_or_append_left}
 use Rattle.std.proofs.lemmas.List.Sums.{sum_by-append, sum_by-cons}
 use Rattle.std.proofs.Math.Seq.{get_or-append_seam}
 use Rattle.dbn_value.proofs.ListLaws.{take_more}
@@ -14,10 +14,10 @@ use Rattle.dbn_network.specs.declared.held.Held.{Held}
 use Rattle.dbn_network.specs.declared.input.Input.{Input}
 use Rattle.dbn_network.specs.declared.input.Input.TheVariants as input
 use Rattle.dbn_network.specs.Inputs.{left_in, right_in}
-use Rattle.dbn_network.specs.Values.{built, rows_from}
+use Rattle.dbn_network.specs.Values.{rows_from}
 use Rattle.dbn_network.specs.States.{IsThere}
-use Rattle.dbn_network.specs.Loads.{load_from, named_load, all_loads, load_of, load_in, loads_of, bound, share_left, share_right}
-use Rattle.dbn_network.specs.Passes.{at_feed, events_from, Stepped, Before, Costs}
+use Rattle.dbn_network.specs.Loads.{load_from, named_load, all_loads, load_of, load_in, loads_of}
+use Rattle.dbn_network.specs.Passes.{events_from, Stepped, Before, Costs}
 use Rattle.dbn_network.specs.Holding.{nodes_of}
 use Rattle.dbn_network.proofs.LoadLaws.{within_load, within_steps}
 use Rattle.dbn_network.proofs.RunLaws.{take_whole}

@@ -1,12 +1,11 @@
 -- One event of a feed in its table.
-use Rattle.std.proofs.Common.{◌≡◌, ◌<◌, ◌≤◌, ◌+◌, ◌==◌, ℕ, zero, suc, ◌⊎◌, inl, inr, ⊎_elim, Bool, true, false, cond, ◌&&◌, List, [], ◌∷◌, ◌++◌, refl, ap, sym, ◌∙◌, subst, length, take, get_or, map, nat_lt, Option, Some, None, arith}
-use Rattle.std.proofs.lemmas.Bool.{cases_eq, eqb-true, eq-eqb, true≢false, false_from_ne_true}
-use Rattle.std.proofs.lemmas.Bool.Decides.{nat_tests}
+use Rattle.std.proofs.Common.{◌≡◌, ◌<◌, ◌+◌, ℕ, zero, suc, ◌⊎◌, inl, inr, true, false, cond, List, [], ◌∷◌, ◌++◌, refl, ap, sym, ◌∙◌, subst, length, take, get_or, map, nat_lt, Some, arith}
+use Rattle.std.proofs.lemmas.Bool.{true≢false}
 use Rattle.std.specs.Prelude.{slice_set}
 use Rattle.std.specs.declared.cmp.Ordering.{Ordering}
 use Rattle.std.specs.Ordering.{eq_by_cmp}
 use Rattle.std.specs.Option.{unwrap_or}
-use Rattle.std.specs.Cmp.{IsTotalOrder, Equal-is}
+use Rattle.std.specs.Cmp.{IsTotalOrder}
 use Rattle.std.specs.Cmp.Lexicographic.{slice_cmp, lists_total}
 use Rattle.std.specs.FinMap.{IsAntisymmetric}
 use Rattle.std.specs.Map.{lookup, keys_of}
@@ -15,7 +14,7 @@ use Rattle.std.specs.BTreeSet.{insert_key}
 use Rattle.std.specs.Set.{remove_key}
 use Rattle.std.specs.List.{filter}
 use Rattle.std.specs.List.Sorted.{IsStrictlySortedBy}
-use Rattle.std.proofs.lemmas.List.{get_or-set_same, get_or-set_other, length-map, append_assoc, map-append, map-set}
+use Rattle.std.proofs.lemmas.List.{length-map, append_assoc, map-append, map-set}
 use Rattle.dbn_value.specs.Members.{In}
 use Rattle.dbn_value.specs.declared.value.ColType.{ColType}
 use Rattle.dbn_value.proofs.ListLaws.{take_more}
@@ -23,15 +22,14 @@ use Rattle.dbn_value.proofs.MemberLaws.{in_filter, filter_in}
 use Rattle.dbn_value.proofs.AscendingLaws.{in_ascending, ascending_in, sorted_ascending, sorted_nil, same_members}
 use Rattle.dbn_nodes.specs.declared.event.Event.{Event}
 use Rattle.dbn_nodes.specs.declared.event.Event.TheVariants as event
-use Rattle.dbn_nodes.specs.Tables.{shelf_count, shelf_at, count_at, has}
-use Rattle.dbn_nodes.specs.Changes.{row_in, Leads}
+use Rattle.dbn_nodes.specs.Tables.{shelf_count, shelf_at, count_at}
+use Rattle.dbn_nodes.specs.Changes.{Leads}
 use Rattle.dbn_nodes.specs.Stands.{IsPlain}
-use Rattle.dbn_nodes.proofs.ChangeLaws.{rows_exact, row_in_rows, in_row, itself, same_row}
+use Rattle.dbn_nodes.proofs.ChangeLaws.{rows_exact, row_in_rows, in_row, same_row}
 use Rattle.dbn_nodes.proofs.NodeLaws.{plain_has}
 use Rattle.dbn_instance.specs.Facts.{changed, Fits as FitsNow}
 use Rattle.dbn_network.specs.Values.{rows_at}
 use Rattle.dbn_network.specs.States.{change_at}
-use Rattle.dbn_network.specs.Passes.{at_feed}
 use Rattle.dbn_network.specs.Holding.{held_rows, feeds_of, IsNetwork}
 
 abbrev pub Table : Type 0 → Type 0

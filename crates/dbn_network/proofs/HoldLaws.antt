@@ -1,5 +1,5 @@
 -- A network before and after the event of a feed.
-use Rattle.std.proofs.Common.{◌≡◌, ◌<◌, ◌≤◌, ◌+◌, ◌==◌, ℕ, zero, suc, ◌⊎◌, inl, inr, ⊎_elim, Bool, true, false, cond, List, [], ◌∷◌, ◌++◌, refl, ap, sym, ◌∙◌, subst, length, get_or, map, arith}
+use Rattle.std.proofs.Common.{◌≡◌, ◌<◌, ◌==◌, ℕ, zero, suc, inl, inr, ⊎_elim, Bool, true, false, cond, List, [], ◌∷◌, refl, ap, sym, ◌∙◌, subst, length, get_or, arith}
 use Rattle.std.proofs.lemmas.Bool.{cases_eq, eqb-true, eq-eqb, false_from_ne_true}
 use Rattle.std.specs.Prelude.{slice_set}
 use Rattle.std.specs.declared.cmp.Ordering.{Ordering}
@@ -16,15 +16,14 @@ use Rattle.dbn_nodes.specs.Changes.{row_in, Leads}
 use Rattle.dbn_nodes.specs.Stands.{IsPlain}
 use Rattle.dbn_instance.specs.Facts.{changed, Fits as FitsNow}
 use Rattle.dbn_network.specs.declared.held.Held.{Held}
-use Rattle.dbn_network.specs.declared.input.Input.TheVariants as input
 use Rattle.dbn_network.specs.Inputs.{left_in, right_in}
 use Rattle.dbn_network.specs.Values.{rows_at, value_in, values}
-use Rattle.dbn_network.specs.States.{width_at, width_from, width_in, feed_widths, widths, FitsAt, change_at}
+use Rattle.dbn_network.specs.States.{width_at, width_in, feed_widths, widths, FitsAt, change_at}
 use Rattle.dbn_network.specs.Passes.{Alike, AreWide, at_feed, AreRows, AreValues, HaveWidths, Before, Passed, AllStand}
 use Rattle.dbn_network.specs.Holding.{nodes_of, held_rows, feeds_of, IsNetwork}
 use Rattle.dbn_network.proofs.RunLaws.{leads_ascend, leads_wide}
 use Rattle.dbn_network.proofs.PassLaws.{alike_nodes}
-use Rattle.dbn_network.proofs.ValueLaws.{each_value, value_at, width_is, rows_good}
+use Rattle.dbn_network.proofs.ValueLaws.{value_at, width_is, rows_good}
 use Rattle.dbn_network.proofs.FeedLaws.{Table, after, feed_sorted, fits_leads, changed_is, Noted}
 
 module _ {C : Type 0} where

@@ -1,29 +1,26 @@
 -- How many events and steps there are at most.
-use Rattle.std.proofs.Common.{◌≡◌, ◌<◌, ◌≤◌, ◌+◌, ◌*◌, ◌==◌, ℕ, zero, suc, ◌⊎◌, inl, inr, ⊎_elim, Bool, true, false, cond, List, [], ◌∷◌, ◌++◌, map, refl, sym, ap, ◌∙◌, subst, length, take, get_or, max, zero-add, le_trans, arith}
+use Rattle.std.proofs.Common.{◌≡◌, ◌≤◌, ◌+◌, ◌*◌, ℕ, suc, ◌⊎◌, inl, inr, ⊎_elim, Bool, true, false, cond, List, [], ◌∷◌, ◌++◌, map, refl, sym, ap, ◌∙◌, subst, length, max, le_trans, arith}
 use Rattle.std.proofs.Math.Nat.{add-mul, one-mul, add-le-add, mul-le-mul_right, le-add_left, le-add_right, le-max_left, le-max_right}
 use Rattle.std.specs.declared.cmp.Ordering.{Ordering}
 use Rattle.std.specs.Ordering.{eq_by_cmp}
 use Rattle.std.specs.Cmp.{IsTotalOrder}
 use Rattle.std.specs.Cmp.Lexicographic.{slice_cmp}
 use Rattle.std.specs.FinMap.{IsAntisymmetric}
-use Rattle.std.specs.List.{filter, sum_by}
-use Rattle.std.proofs.lemmas.List.{get_or_append_left, length-append}
-use Rattle.std.proofs.lemmas.List.Sums.{sum_by-append, sum_by-cons}
+use Rattle.std.specs.List.{filter}
+use Rattle.std.proofs.lemmas.List.{length-append}
 use Rattle.dbn_value.specs.Members.{In}
 use Rattle.dbn_value.specs.Picked.{picked}
 use Rattle.dbn_value.proofs.MemberLaws.{in_filter, map_in}
 use Rattle.dbn_nodes.specs.declared.node.Node.{Node}
 use Rattle.dbn_nodes.specs.declared.node.Node.TheVariants as node
-use Rattle.dbn_nodes.specs.declared.event.Event.{Event}
 use Rattle.dbn_nodes.specs.Values.{matched}
 use Rattle.dbn_nodes.specs.Stands.{firsts, seconds, most_left, most_right}
 use Rattle.dbn_nodes.proofs.ChangeLaws.{itself}
 use Rattle.dbn_nodes.proofs.ValueLaws.{matched_same}
-use Rattle.dbn_network.specs.declared.input.Input.{Input}
 use Rattle.dbn_network.specs.declared.input.Input.TheVariants as input
 use Rattle.dbn_network.specs.Inputs.{left_in, right_in}
 use Rattle.dbn_network.specs.Values.{rows_from}
-use Rattle.dbn_network.specs.Loads.{greatest, load_from, named_load, fan, load_of, load_in, share_left, share_right}
+use Rattle.dbn_network.specs.Loads.{greatest, load_from, named_load, fan, load_in, share_left, share_right}
 
 -- ---- rows that agree
 

@@ -1,5 +1,5 @@
 -- What the calls of a network say, by its fields.
-use Rattle.std.proofs.Common.{◌≡◌, ◌<◌, ◌≤◌, ◌+◌, ◌*◌, max, ℕ, zero, suc, ◌⊎◌, inl, inr, ⊎_elim, Bool, true, false, List, [], ◌∷◌, ◌++◌, refl, ap, sym, ◌∙◌, subst, length, get_or, map, arith}
+use Rattle.std.proofs.Common.{◌≡◌, ◌<◌, ◌≤◌, ◌+◌, ◌*◌, max, ℕ, ◌⊎◌, ⊎_elim, Bool, true, List, [], ◌∷◌, ◌++◌, ap, sym, ◌∙◌, subst, length, get_or, arith}
 use Rattle.std.specs.Prelude.{slice_set, IsTrue}
 use Rattle.std.specs.declared.cmp.Ordering.{Ordering}
 use Rattle.std.specs.Cmp.{IsTotalOrder}

@@ -1,20 +1,15 @@
 -- The pass of one event over all nodes, node by node.
-use Rattle.std.proofs.Common.{◌≡◌, ◌≢◌, ◌<◌, ◌≤◌, ◌+◌, ◌*◌, ◌==◌, ℕ, zero, suc, ◌⊎◌, inl, inr, ⊎_elim, Bool, true, false, cond, List, [], ◌∷◌, ◌++◌, refl, ap, sym, ◌∙◌, subst, length, get_or, map, zero-add, arith}
+use Rattle.std.proofs.Common.{◌≡◌, ◌<◌, ◌≤◌, ◌+◌, ◌*◌, ◌==◌, ℕ, zero, suc, inl, inr, ⊎_elim, Bool, true, false, cond, List, [], ◌∷◌, ◌++◌, refl, ap, sym, ◌∙◌, subst, length, get_or, map, zero-add, arith}
 use Rattle.std.proofs.lemmas.Bool.{cases_eq, eqb-true}
 use Rattle.std.specs.Prelude.{slice_set}
 use Rattle.std.specs.declared.cmp.Ordering.{Ordering}
-use Rattle.std.specs.Cmp.{IsTotalOrder}
 use Rattle.std.specs.Cmp.Lexicographic.{slice_cmp}
-use Rattle.std.specs.FinMap.{IsAntisymmetric}
 use Rattle.std.specs.List.Sorted.{IsStrictlySortedBy}
 use Rattle.std.proofs.lemmas.List.{get_or_append_left, length-append, get_or-set_same, get_or-set_other, length-set}
 use Rattle.std.proofs.Math.Seq.{get_or-append_seam}
-use Rattle.dbn_value.specs.Members.{In}
 use Rattle.dbn_value.proofs.AscendingLaws.{sorted_nil}
-use Rattle.dbn_nodes.specs.declared.node.Node.{Node}
 use Rattle.dbn_nodes.specs.declared.event.Event.{Event}
 use Rattle.dbn_nodes.specs.Changes.{row_in, Leads}
-use Rattle.dbn_nodes.specs.Values.{value_of}
 use Rattle.dbn_nodes.specs.Stands.{Stands}
 use Rattle.dbn_network.specs.declared.held.Held.{Held}
 use Rattle.dbn_network.specs.declared.input.Input.{Input}
@@ -23,7 +18,7 @@ use Rattle.dbn_network.specs.Inputs.{left_in, right_in}
 use Rattle.dbn_network.specs.Values.{rows_at, rows_from, value_in}
 use Rattle.dbn_network.specs.States.{width_at, width_from, wide, IsThere, NamesIn}
 use Rattle.dbn_network.specs.Loads.{share_left, share_right}
-use Rattle.dbn_network.specs.Passes.{SameHeld, Alike, IsWide, AreWide, at_feed, events_from, Proper, LeadAll, Stepped, StandsAt, AllStand, Before, Passed}
+use Rattle.dbn_network.specs.Passes.{SameHeld, Alike, IsWide, AreWide, events_from, Proper, LeadAll, Stepped, StandsAt, Before, Passed}
 
 pub same_inside : {A : Type 0} (xs : List A) (i : ℕ) (d e : A) → i < length xs → get_or xs i d ≡ get_or xs i e
 same_inside [] i d e h = absurd (omega arith)

@@ -1,5 +1,5 @@
 -- Events that run through one node.
-use Rattle.std.proofs.Common.{◌≡◌, ◌<◌, ◌≤◌, ◌+◌, ◌*◌, ◌==◌, ◌⊎◌, inl, inr, ⊎_elim, ℕ, zero, suc, Bool, true, false, cond, not, List, [], ◌∷◌, ◌++◌, map, refl, sym, ap, ◌∙◌, subst, Some, length, take, get_or, arith}
+use Rattle.std.proofs.Common.{◌≡◌, ◌<◌, ◌≤◌, ◌+◌, ◌*◌, ◌==◌, inl, inr, ⊎_elim, ℕ, zero, suc, true, false, cond, not, List, [], ◌∷◌, ◌++◌, refl, sym, ap, ◌∙◌, subst, Some, length, take, get_or, arith}
 use Rattle.std.specs.Prelude.{slice_get}
 use Rattle.std.specs.declared.cmp.Ordering.{Ordering}
 use Rattle.std.specs.Cmp.{IsTotalOrder}
@@ -16,7 +16,7 @@ use Rattle.std.proofs.lemmas.Option.{slice_get_cases}
 use Rattle.dbn_value.specs.Members.{In}
 use Rattle.dbn_value.specs.Picked.{picked}
 use Rattle.dbn_value.proofs.ListLaws.{take_more}
-use Rattle.dbn_value.proofs.MemberLaws.{in_filter, in_append, append_left, append_right, in_map}
+use Rattle.dbn_value.proofs.MemberLaws.{in_filter, in_append, append_left}
 use Rattle.dbn_value.proofs.AscendingLaws.{sorted_insert_key, sorted_remove_key, in_insert_key, in_remove_key, in_ascending, in_images}
 use Rattle.dbn_nodes.specs.declared.node.Node.{Node}
 use Rattle.dbn_nodes.specs.declared.node.Node.TheVariants as node
@@ -27,8 +27,8 @@ use Rattle.dbn_nodes.specs.declared.event.Event.TheVariants as event
 use Rattle.dbn_nodes.specs.declared.state.Kept.{Kept}
 use Rattle.dbn_nodes.specs.Tables.{has}
 use Rattle.dbn_nodes.specs.Changes.{row_in, Leads}
-use Rattle.dbn_nodes.specs.Values.{passes, matched, added_cells, value_of}
-use Rattle.dbn_nodes.specs.Stands.{Suits, Stands, Good, LeadOn, FollowsLeft, FollowsRight, LeadsLeft, LeadsRight, most_left, most_right}
+use Rattle.dbn_nodes.specs.Values.{passes, added_cells, value_of}
+use Rattle.dbn_nodes.specs.Stands.{Suits, Stands, Good, FollowsLeft, FollowsRight, LeadsLeft, LeadsRight, most_left, most_right}
 use Rattle.dbn_nodes.proofs.ChangeLaws.{rows_exact}
 use Rattle.dbn_nodes.proofs.ValueLaws.{in_joined}
 use Rattle.dbn_network.specs.States.{wide, NamesIn, AddedIn}

@@ -1,5 +1,5 @@
 -- The rows of a node, from what the network holds.
-use Rattle.std.proofs.Common.{◌≡◌, ◌<◌, ◌≤◌, ◌+◌, ℕ, zero, suc, ◌⊎◌, inl, inr, ⊎_elim, Bool, true, false, ◌&&◌, ◌↔◌, IsTrue, List, [], ◌∷◌, ◌++◌, refl, ap, sym, ◌∙◌, subst, length, get_or, map, nat_lt, arith}
+use Rattle.std.proofs.Common.{◌≡◌, ◌<◌, ℕ, inl, Bool, false, ◌&&◌, ◌↔◌, IsTrue, List, [], ◌∷◌, refl, ap, sym, ◌∙◌, subst, length, get_or, nat_lt}
 use Rattle.std.specs.declared.cmp.Ordering.{Ordering}
 use Rattle.std.specs.Cmp.{IsTotalOrder}
 use Rattle.std.specs.Ordering.{eq_by_cmp}
@@ -7,7 +7,6 @@ use Rattle.std.proofs.lemmas.Bool.{true≢false}
 use Rattle.std.specs.Cmp.Lexicographic.{slice_cmp}
 use Rattle.std.specs.FinMap.{IsAntisymmetric}
 use Rattle.std.specs.List.Sorted.{IsStrictlySortedBy}
-use Rattle.dbn_value.specs.Members.{In}
 use Rattle.dbn_value.specs.declared.value.ColType.{ColType}
 use Rattle.dbn_value.proofs.AscendingLaws.{sorted_nil}
 use Rattle.dbn_nodes.specs.declared.node.Node.{Node}
@@ -24,7 +23,7 @@ use Rattle.dbn_network.specs.declared.input.Input.{Input}
 use Rattle.dbn_network.specs.declared.input.Input.TheVariants as input
 use Rattle.dbn_network.specs.Inputs.{left_in, right_in, needed_in}
 use Rattle.dbn_network.specs.Values.{rows_at, rows_from, value_in, values}
-use Rattle.dbn_network.specs.States.{width_at, width_from, feed_widths, widths, IsThere, FitsAt}
+use Rattle.dbn_network.specs.States.{width_from, feed_widths, widths, IsThere, FitsAt}
 use Rattle.dbn_network.specs.Passes.{IsWide, Proper, StandsAt}
 use Rattle.dbn_network.specs.Holding.{nodes_of, feeds_of, AreEarlier, IsDirect, IsNetwork}
 use Rattle.dbn_network.proofs.PassLaws.{same_inside}

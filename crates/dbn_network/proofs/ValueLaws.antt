@@ -1,5 +1,5 @@
 -- The rows and the widths of all nodes, which are built one behind the other.
-use Rattle.std.proofs.Common.{◌≡◌, ◌<◌, ◌≤◌, ◌+◌, ℕ, zero, suc, ◌⊎◌, inl, inr, ⊎_elim, List, [], ◌∷◌, ◌++◌, refl, ap, sym, ◌∙◌, subst, length, get_or, map, zero-add, arith}
+use Rattle.std.proofs.Common.{◌≡◌, ◌<◌, ◌+◌, ℕ, zero, suc, ⊎_elim, List, [], ◌∷◌, ◌++◌, refl, ap, sym, ◌∙◌, subst, length, get_or, zero-add, arith}
 use Rattle.std.specs.declared.cmp.Ordering.{Ordering}
 use Rattle.std.specs.Cmp.{IsTotalOrder}
 use Rattle.std.specs.Cmp.Lexicographic.{slice_cmp}
@@ -7,7 +7,6 @@ use Rattle.std.specs.FinMap.{IsAntisymmetric}
 use Rattle.std.specs.List.Sorted.{IsStrictlySortedBy}
 use Rattle.std.proofs.lemmas.List.{get_or_append_left, length-append, get_or_past, append_assoc}
 use Rattle.std.proofs.Math.Seq.{get_or-append_seam}
-use Rattle.dbn_value.specs.Members.{In}
 use Rattle.dbn_value.proofs.AscendingLaws.{sorted_nil}
 use Rattle.std.proofs.lemmas.Bool.{cases_lt}
 use Rattle.dbn_nodes.specs.declared.node.Node.{Node}
@@ -17,7 +16,7 @@ use Rattle.dbn_nodes.proofs.NodeLaws.{sorted_value}
 use Rattle.dbn_network.specs.declared.input.Input.{Input}
 use Rattle.dbn_network.specs.declared.input.Input.TheVariants as input
 use Rattle.dbn_network.specs.Inputs.{left_in, right_in}
-use Rattle.dbn_network.specs.Values.{built, rows_at, rows_from, value_in, values, val}
+use Rattle.dbn_network.specs.Values.{built, rows_at, rows_from, value_in, values}
 use Rattle.dbn_network.specs.States.{width_at, width_from, width_in, wide, widths, IsThere, FitsAt}
 use Rattle.dbn_network.specs.Passes.{IsWide, AreRows}
 use Rattle.dbn_network.proofs.RunLaws.{value_wide}

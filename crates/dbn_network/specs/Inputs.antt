@@ -1,5 +1,4 @@
 -- The inputs of a node.
-use Rattle.std.specs.Prelude.{ℕ}
 use Rattle.dbn_nodes.specs.declared.node.Node.{Node}
 use Rattle.dbn_nodes.specs.declared.node.Node.TheVariants as node
 use Rattle.dbn_network.specs.declared.input.Input.{Input}

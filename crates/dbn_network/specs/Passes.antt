@@ -1,5 +1,5 @@
 -- Events that run through a node, and the pass of one event of a feed over all nodes. R is the order of cells.
-use Rattle.std.specs.Prelude.{◌≡◌, ◌<◌, ◌≤◌, ◌+◌, ◌*◌, ◌==◌, ◌⊎◌, ℕ, Bool, true, false, cond, List, [], ◌∷◌, map, length, slice_index_or}
+use Rattle.std.specs.Prelude.{◌≡◌, ◌<◌, ◌≤◌, ◌+◌, ◌*◌, ◌==◌, ◌⊎◌, ℕ, true, false, cond, List, [], ◌∷◌, map, length, slice_index_or}
 use Rattle.std.specs.declared.cmp.Ordering.{Ordering}
 use Rattle.std.specs.Cmp.Lexicographic.{slice_cmp}
 use Rattle.std.specs.List.Sorted.{IsStrictlySortedBy}
@@ -9,13 +9,13 @@ use Rattle.dbn_nodes.specs.declared.event.Event.{Event}
 use Rattle.dbn_nodes.specs.declared.state.Kept.{Kept}
 use Rattle.dbn_nodes.specs.Changes.{row_in, Leads}
 use Rattle.dbn_nodes.specs.Values.{value_of}
-use Rattle.dbn_nodes.specs.Stands.{Stands, most_left, most_right}
+use Rattle.dbn_nodes.specs.Stands.{Stands}
 use Rattle.dbn_network.specs.declared.input.Input.{Input}
 use Rattle.dbn_network.specs.declared.input.Input.TheVariants as input
 use Rattle.dbn_network.specs.declared.held.Held.{Held}
 use Rattle.dbn_network.specs.Inputs.{left_in, right_in}
 use Rattle.dbn_network.specs.Values.{rows_at, rows_from, value_in}
-use Rattle.dbn_network.specs.States.{width_at, width_from, width_in, wide, NamesIn, FitsAt}
+use Rattle.dbn_network.specs.States.{width_at, width_in, wide, NamesIn, FitsAt}
 use Rattle.dbn_network.specs.Loads.{all_loads, loads_of, share_left, share_right}
 
 module _ {C : Type 0} where

@@ -1,4 +1,4 @@
-use Rattle.std.proofs.Common.{◌≡◌, ◌∙◌, true, map, refl, ap, subst, arith}
+use Rattle.std.proofs.Common.{◌∙◌, true, map, refl, ap, subst, arith}
 use Rattle.dbn_nodes.specs.Changes.{signed}
 use Rattle.dbn_nodes.specs.Stands.{FollowsRight}
 use Rattle.dbn_network.specs.Passes.{FollowsRights}

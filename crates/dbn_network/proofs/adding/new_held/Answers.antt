@@ -1,4 +1,4 @@
-use Rattle.std.proofs.Common.{◌≡◌, ◌∙◌, false, sym, ap, subst}
+use Rattle.std.proofs.Common.{◌∙◌, false, ap}
 use Rattle.dbn_network.specs.Values.{rows_from, values}
 use Rattle.dbn_network.specs.Holding.{nodes_of, feeds_of}
 use Rattle.dbn_network.proofs.AddLaws.{new_stands}

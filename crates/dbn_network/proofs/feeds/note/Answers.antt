@@ -1,4 +1,4 @@
-use Rattle.std.proofs.Common.{◌≡◌, ◌∙◌, []}
+use Rattle.std.proofs.Common.{◌∙◌, []}
 use Rattle.dbn_nodes.proofs.ChangeLaws.{one_moves}
 use Rattle.dbn_nodes.proofs.NodeLaws.{mark_stands}
 use Rattle.dbn_network.proofs.feeds.note.Goals as goal

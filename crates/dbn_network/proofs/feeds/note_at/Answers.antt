@@ -1,4 +1,4 @@
-use Rattle.std.proofs.Common.{◌≡◌, ◌∙◌, ◌∷◌, [], List, refl, subst}
+use Rattle.std.proofs.Common.{◌∙◌, ◌∷◌, [], List, refl, subst}
 use Rattle.std.specs.Cmp.Lexicographic.{slice_cmp}
 use Rattle.std.specs.List.Sorted.{IsStrictlySortedBy}
 use Rattle.dbn_nodes.specs.Changes.{Leads}

@@ -1,6 +1,5 @@
-use Rattle.std.proofs.Common.{◌≡◌, ◌<◌, ◌∙◌, [], refl, sym, length, get_or, arith}
+use Rattle.std.proofs.Common.{◌∙◌, [], refl, get_or, arith}
 use Rattle.std.proofs.lemmas.List.{length-set}
-use Rattle.dbn_value.specs.Members.{In}
 use Rattle.dbn_value.proofs.ListLaws.{in_at}
 use Rattle.dbn_network.proofs.PassLaws.{same_inside}
 use Rattle.dbn_network.proofs.WalkLaws.{clear_step, clear_end}

@@ -1,4 +1,4 @@
-use Rattle.std.proofs.Common.{◌≡◌, ◌<◌, ◌≤◌, inl, inr, subst, sym, ◌∙◌, get_or, arith}
+use Rattle.std.proofs.Common.{◌≡◌, inl, inr, subst, ◌∙◌, get_or, arith}
 use Rattle.dbn_network.specs.Inputs.{left_in, right_in}
 use Rattle.dbn_network.specs.declared.input.Input.TheVariants as input
 use Rattle.dbn_network.proofs.PassLaws.{same_inside, at_any}

@@ -1,6 +1,4 @@
-use Rattle.std.proofs.Common.{◌≡◌, ◌<◌, ◌∙◌, [], sym, subst, length, get_or, arith}
-use Rattle.dbn_network.specs.Holding.{nodes_of}
-use Rattle.dbn_network.specs.Walks.{marked_from, marks}
+use Rattle.std.proofs.Common.{◌∙◌, [], length, arith}
 use Rattle.dbn_network.proofs.PassLaws.{same_inside}
 use Rattle.dbn_network.proofs.WalkLaws.{walks_within, walks_after}
 use Rattle.dbn_network.proofs.pass.run.Goals as goal

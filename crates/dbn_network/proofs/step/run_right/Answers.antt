@@ -1,6 +1,6 @@
 use Rattle.std.proofs.Common.{◌≡◌, ◌∙◌, ◌∷◌, [], refl, sym, eq-eqb, arith}
 use Rattle.dbn_network.specs.declared.input.Input.TheVariants as input
-use Rattle.dbn_network.proofs.RunLaws.{right_start, right_one, right_events, at_this, at_other}
+use Rattle.dbn_network.proofs.RunLaws.{right_start, right_one, right_events, at_this}
 use Rattle.dbn_network.proofs.step.run_right.Goals as goal
 
 pub events_at-requires : goal.events_at-requires

@@ -1,6 +1,6 @@
-use Rattle.std.proofs.Common.{◌≡◌, [], subst, sym, ap}
+use Rattle.std.proofs.Common.{subst}
 use Rattle.dbn_network.specs.Inputs.{right_in}
-use Rattle.dbn_network.specs.Passes.{events_from, RunsLeft, RunsRight}
+use Rattle.dbn_network.specs.Passes.{events_from, RunsRight}
 use Rattle.dbn_network.proofs.RunLaws.{stepped}
 use Rattle.dbn_network.proofs.step.step.Goals as goal
 

@@ -1,4 +1,4 @@
-use Rattle.std.proofs.Common.{rules, ◌≡◌, ◌<◌, ◌∙◌, [], refl, sym, ap, length, subst, arith}
+use Rattle.std.proofs.Common.{rules, ◌∙◌, sym, length, subst, arith}
 use Rattle.dbn_network.specs.declared.input.Input.TheVariants as input
 use Rattle.dbn_network.specs.Inputs.{left_in}
 use Rattle.dbn_network.specs.States.{IsThere}

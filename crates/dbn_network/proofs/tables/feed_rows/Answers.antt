@@ -1,4 +1,4 @@
-use Rattle.std.proofs.Common.{◌≡◌, ◌∙◌, [], sym, subst, get_or}
+use Rattle.std.proofs.Common.{◌∙◌, [], subst}
 use Rattle.std.specs.Cmp.Lexicographic.{slice_cmp}
 use Rattle.dbn_nodes.specs.Tables.{AreRowsOf}
 use Rattle.dbn_network.proofs.PassLaws.{same_inside}

@@ -1,4 +1,4 @@
-use Rattle.std.proofs.Common.{rules, ◌≡◌, ◌<◌, ◌≤◌, length, arith}
+use Rattle.std.proofs.Common.{rules, arith}
 use Rattle.dbn_network.proofs.WalkLaws.{none_lengthened, one_lengthened}
 use Rattle.dbn_network.proofs.walks.lengthen_all.Goals as goal
 

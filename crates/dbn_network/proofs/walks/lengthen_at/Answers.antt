@@ -1,4 +1,4 @@
-use Rattle.std.proofs.Common.{◌≡◌, ◌∙◌, [], ap}
+use Rattle.std.proofs.Common.{◌∙◌, [], ap}
 use Rattle.std.specs.Prelude.{slice_set}
 use Rattle.dbn_network.specs.Walks.{longer}
 use Rattle.dbn_network.proofs.PassLaws.{same_inside}

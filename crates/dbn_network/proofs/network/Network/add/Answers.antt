@@ -1,9 +1,9 @@
-use Rattle.std.proofs.Common.{rules, ◌≡◌, ◌<◌, ◌∙◌, ◌++◌, sym, ap, subst, length, arith}
+use Rattle.std.proofs.Common.{rules, ◌≡◌, ◌<◌, ◌∙◌, ◌++◌, sym, ap, subst, length}
 use Rattle.dbn_network.specs.Inputs.{left_in, right_in}
 use Rattle.dbn_network.specs.States.{IsThere}
 use Rattle.dbn_network.specs.Holding.{MarkedBy}
 use Rattle.dbn_network.proofs.AddLaws.{marked_both}
-use Rattle.dbn_network.proofs.NetworkLaws.{network_is, are_earlier, many_nodes, inputs_there, fits_now, added_network, added_value, added_walks}
+use Rattle.dbn_network.proofs.NetworkLaws.{network_is, are_earlier, inputs_there, fits_now, added_network, added_value, added_walks}
 use Rattle.dbn_network.proofs.network.Network.add.Goals as goal
 
 pub held_of_node-requires-clause-earlier : goal.held_of_node-requires-clause-earlier

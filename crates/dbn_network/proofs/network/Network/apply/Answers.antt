@@ -1,4 +1,4 @@
-use Rattle.std.proofs.Common.{◌≡◌, ◌<◌, ◌∙◌, ◌++◌, sym, ap, subst, length, arith}
+use Rattle.std.proofs.Common.{◌∙◌, ◌++◌, sym, ap, subst, length, arith}
 use Rattle.dbn_network.specs.Holding.{feeds_of, nodes_of, IsNetwork}
 use Rattle.std.proofs.lemmas.List.{length-set}
 use Rattle.dbn_network.proofs.WalkLaws.{walks_by, walks_count}

@@ -1,4 +1,4 @@
-use Rattle.std.proofs.Common.{◌≡◌, ◌<◌, ◌∙◌, ◌++◌, sym, ap, subst, length, get_or, arith}
+use Rattle.std.proofs.Common.{◌∙◌, ◌++◌, sym, ap, length, get_or, arith}
 use Rattle.std.proofs.lemmas.Result.{IfOk-weaker}
 use Rattle.dbn_nodes.specs.Answering.{IsCounted}
 use Rattle.dbn_network.specs.Holding.{IsDirect}

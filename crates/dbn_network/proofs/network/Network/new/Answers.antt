@@ -1,4 +1,4 @@
-use Rattle.std.proofs.Common.{◌≡◌, ◌∙◌, ◌++◌, [], true, map, sym, ap, subst}
+use Rattle.std.proofs.Common.{◌∙◌, ◌++◌, [], true, sym, ap, subst}
 use Rattle.std.proofs.lemmas.List.{map-append}
 use Rattle.dbn_network.specs.Holding.{feeds_of, IsNetwork}
 use Rattle.dbn_network.proofs.FeedLaws.{no_rows, no_nodes}

@@ -1,5 +1,4 @@
-use Rattle.std.proofs.Common.{rules, ◌≡◌, ◌<◌, ◌∙◌, ◌++◌, sym, ap, subst, length, arith}
-use Rattle.dbn_network.specs.Holding.{AreEarlier}
+use Rattle.std.proofs.Common.{◌∙◌, ◌++◌, ap, length, arith}
 use Rattle.dbn_network.proofs.NetworkLaws.{network_is, are_earlier, many_nodes, val_is}
 use Rattle.dbn_network.proofs.network.Network.table.Goals as goal
 
