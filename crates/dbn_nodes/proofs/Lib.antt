@@ -1,4 +1,5 @@
 pub mod AnswerLaws
+pub mod BehindLaws
 pub mod ChangeLaws
 mod Examples
 pub mod KeyedLaws

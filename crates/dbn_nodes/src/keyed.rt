@@ -6,6 +6,7 @@ ghost use Rattle.std.specs.BTreeMap.{is_at};
 ghost use Rattle.dbn_nodes.specs.Tables.{shelf_count, count_at, AreRowsOf};
 ghost use Rattle.dbn_nodes.specs.Changes.{signed, paired};
 
+use super::behind::is_behind;
 use super::event::Events;
 use super::shelf::{Shelf, Way};
 use super::steps::Steps;
@@ -97,6 +98,10 @@ impl<C: Cell> Keyed<C> {
         ensures cost { steps.new ≡ steps.old + 1 }
     {
         steps.tick();
+        if is_behind(&self.shelves, &key) {
+            self.shelves.insert(key, Shelf::one(row, many))?;
+            return Ok(());
+        }
         match self.shelves.get_mut(&key) {
             Some(shelf) => {
                 shelf.set(alloc, row, many)?;

@@ -3,6 +3,7 @@
 #![tactic(auto)]
 
 mod answering;
+mod behind;
 mod changes;
 mod counts;
 mod event;
