@@ -5,6 +5,9 @@ pub mod ComparingLaws
 pub mod ComparisonMade
 pub mod DeniedLaws
 pub mod DrawnLaws
+pub mod EasedPlans
+pub mod EasingKept
+pub mod EasingLaws
 pub mod FormsReady
 pub mod FormulaLaws
 pub mod MadeLaws

@@ -2,6 +2,7 @@ pub mod Answering
 pub mod Columns
 pub mod Comparing
 pub mod Compiled
+pub mod Easing
 pub mod Filling
 pub mod Making
 pub mod Meaning

@@ -5,6 +5,7 @@ mod atom;
 mod columns;
 mod comparison;
 mod context;
+mod easing;
 mod forms;
 mod labels;
 mod laws;

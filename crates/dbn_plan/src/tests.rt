@@ -406,20 +406,16 @@ Unit
 Scan { feed: 1 }
 Extend { from: 1, with: Copied(0) }
 Join { left: 2, right: 1, on: Items { items: [(2, 0)] } }
-Select { from: 3, tests: Items { items: [Columns { cmp: Ne, left: 0, right: 2 }] } }
 Select { from: 3, tests: Items { items: [Columns { cmp: Ne, left: 1, right: 4 }] } }
-Union { left: 4, right: 5 }
-Project { from: 6, cols: Nums { nums: [] } }
+Project { from: 4, cols: Nums { nums: [] } }
 
 e td te;2te =tu & 2ud & #tu #ed | & Eteud;;2Aa=,2Ab=.,2Aa=
 Unit
 Scan { feed: 2 }
 Extend { from: 1, with: Copied(0) }
 Join { left: 2, right: 1, on: Items { items: [(2, 0)] } }
-Select { from: 3, tests: Items { items: [Columns { cmp: Ne, left: 0, right: 2 }] } }
 Select { from: 3, tests: Items { items: [Columns { cmp: Ne, left: 1, right: 4 }] } }
-Union { left: 4, right: 5 }
-Project { from: 6, cols: Nums { nums: [] } }
+Project { from: 4, cols: Nums { nums: [] } }
 
 e td te;2te 1td Ed ! & Ete;;2Aa=.,1Aj=,2Ba=.,2Ba=,1Aj=.
 Unit

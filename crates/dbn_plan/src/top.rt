@@ -17,6 +17,7 @@ ghost use Rattle.dbn_plan.specs.Answering.{AnswersAt, Planned, Rooted, Finished,
 
 use super::columns::{same_terms, tests_of};
 use super::context::Context;
+use super::easing::eased;
 use super::forms::{any_of, compile_at};
 use super::labels::labels_of;
 use super::referring::{denied_parts, difference_rows, is_closed, lacking_parts, rows_without};
@@ -53,7 +54,8 @@ pub fn compile<P: Coder>(
     ensures counted { IfOk result (λ node. vars.now ≡ [] → (d : NodeOf P.Cell) → IsCounted (slice_index_or network.new.nodes node d)) }
     ensures few { OnOk result (length network.new.nodes ≤ length network.old.nodes + 64 * (size f.now + 1) * (size f.now + columns network.old.rels + 1)) }
 {
-    let form = solvable(alloc, f)?;
+    let whole = solvable(alloc, f)?;
+    let form = eased(alloc, &whole)?;
     let consts = constants(alloc, &form)?;
     put_all(alloc, consts.as_slice(), coder)?;
     let node = plan(alloc, &form, vars, consts, &*coder, network)?;
