@@ -38,7 +38,7 @@ use Rattle.dbn_network.specs.States.{State, Fits, TestIn, with_node, width_at, f
 use Rattle.dbn_nodes.specs.declared.node.ColTest.{ColTest}
 use Rattle.dbn_plan.specs.Meaning.{IsRowOf, Means, vars_of}
 use Rattle.dbn_plan.specs.Columns.{position, constant_test, repeat_test, test_of, tests_after, pair_with, pairs_from}
-use Rattle.dbn_plan.specs.Compiled.{Stands}
+use Rattle.dbn_plan.specs.Compiled.{World, Stands}
 use Rattle.dbn_plan.specs.Making.{IsOpen, Grown, Placed, AreSources, IsReady, ScanMade, Selected, Joined, NoneMade, Made, rate}
 use Rattle.dbn_plan.specs.declared.sources.Sources.{Sources}
 use Rattle.dbn_plan.proofs.NodeLaws.{Pairs}
@@ -218,13 +218,28 @@ pub select_names : {C : Type 0} (K : Value → Option C) (one : State C) (scan :
 select_names K one scan terms tests placed e x at = subst (λ n. TestIn n x) (sym placed.wide) (tests_small K [] terms x (subst (In x) e at))
 
 module _ {C : Type 0} {R : C → C → Ordering} {int_of : C → Option ℤ} {cell_of : Value → Option C} {consts : List Value} where
+  -- the rows behind the tests are those of the atom
+  pub atom_rows : (rel : ℕ) (terms : List Term) (old one two : State C) (tests : List (ColTest C)) (scan from : ℕ)
+      → IsOpen old → rel < length old.rels → arity_fits old.rels (Atom rel terms) ≡ true → HaveCells cell_of (constants (Atom rel terms))
+      → ScanMade old one rel scan → tests ≡ tests_after cell_of [] terms → Selected R one two scan tests from
+      → (w : World R int_of cell_of consts old.rels) → Means w.K (val R from two.nodes w.feeds) terms (holds_over w.dom w.db (Atom rel terms))
+  atom_rows rel terms old one two tests scan from ready small fits has first e_tests second w =
+      let arity : length terms ≡ length (slice_index_or old.rels rel []) = atom_arity old.rels rel terms fits in
+      let cells : HaveCells cell_of (flat_map constant_of terms) = atom_cells cell_of rel terms has in
+      let found : HaveCells w.K (flat_map constant_of terms) = λ v at. let own = cells v at in (own.0, w.later v own.0 own.1) in
+      let same : tests ≡ tests_after w.K [] terms = e_tests ∙ sym (tests_stay cell_of w.K [] terms w.later cells) in
+      let rows : val R from two.nodes w.feeds ≡ filter (λ row. list_all (passes R row) (tests_after w.K [] terms)) (slice_index_or w.feeds rel []) =
+      second.rows w.feeds ∙ ap (λ rs. filter (λ row. list_all (passes R row) tests) rs) (scan_rows R old one rel scan w.feeds ready small first)
+      ∙ ap (λ ts. filter (λ row. list_all (passes R row) ts) (slice_index_or w.feeds rel [])) same in
+      subst (λ rs. Means w.K rs terms (holds_over w.dom w.db (Atom rel terms))) (sym rows)
+      (atom_means w.coding.total w.coding.exact w.K w.coding.one w.dom (length old.rels) w.feeds w.db rel terms w.holds small found
+      (λ row at. let source = w.holds.back rel row small at in row_of_length w.K row source.0 source.1 ∙ row_length w.dom source.0 (slice_index_or old.rels rel []) (w.rows.each rel source.0 source.2) ∙ sym arity))
+
   pub atom_made : (rel : ℕ) (terms : List Term) (old one two new : State C) (i : ℕ) (labels : List Term) (tests : List (ColTest C)) (scan from made : ℕ) (made_labels : List Term)
       → IsOpen old → Placed old i labels → rel < length old.rels → IsReady cell_of old.rels (vars_of labels) (Atom rel terms)
       → ScanMade old one rel scan → tests ≡ tests_after cell_of [] terms → Selected R one two scan tests from → Joined R int_of two new i labels from terms made made_labels
       → Made R int_of cell_of consts (Atom rel terms) old new i labels made made_labels
   atom_made rel terms old one two new i labels tests scan from made made_labels ready placed small can first e_tests second last =
-      let arity : length terms ≡ length (slice_index_or old.rels rel []) = atom_arity old.rels rel terms can.arity in
-      let cells : HaveCells cell_of (flat_map constant_of terms) = atom_cells cell_of rel terms can.cells in
       let to_two : Grown old two = grown_then old one two first.grown second.grown in
       let alike : Alike (vars_of made_labels) (vars_of labels ++ occurrences (Atom rel terms)) =
       alike_same (vars_of made_labels) (vars_of labels ++ occurrences (Atom rel terms)) (ap vars_of last.labelled ∙ flat_map-append variable_of labels terms ∙ ap (λ xs. vars_of labels ++ xs) (sym (occurrences_atom rel terms))) in
@@ -241,15 +256,7 @@ module _ {C : Type 0} {R : C → C → Ordering} {int_of : C → Option ℤ} {ce
         labelled = record { keeps = λ a here. subst (In a) (sym last.labelled) (append_left a labels terms here); bound = alike };
         compiled = λ w scope p fit s.
             let here : Stands R int_of w two.nodes i labels scope p = stands_grown old.rels w old two i labels scope p to_two placed.there s in
-            let found : HaveCells w.K (flat_map constant_of terms) = λ v at. let own = cells v at in (own.0, w.later v own.0 own.1) in
-            let same : tests ≡ tests_after w.K [] terms = e_tests ∙ sym (tests_stay cell_of w.K [] terms w.later cells) in
-            let rows : val R from two.nodes w.feeds ≡ filter (λ row. list_all (passes R row) (tests_after w.K [] terms)) (slice_index_or w.feeds rel []) =
-            second.rows w.feeds ∙ ap (λ rs. filter (λ row. list_all (passes R row) tests) rs) (scan_rows R old one rel scan w.feeds ready small first)
-            ∙ ap (λ ts. filter (λ row. list_all (passes R row) ts) (slice_index_or w.feeds rel [])) same in
-            let atoms : Means w.K (val R from two.nodes w.feeds) terms (holds_over w.dom w.db (Atom rel terms)) =
-            subst (λ rs. Means w.K rs terms (holds_over w.dom w.db (Atom rel terms))) (sym rows)
-            (atom_means w.coding.total w.coding.exact w.K w.coding.one w.dom (length old.rels) w.feeds w.db rel terms w.holds small found
-            (λ row at. let source = w.holds.back rel row small at in row_of_length w.K row source.0 source.1 ∙ row_length w.dom source.0 (slice_index_or old.rels rel []) (w.rows.each rel source.0 source.2) ∙ sym arity)) in
+            let atoms : Means w.K (val R from two.nodes w.feeds) terms (holds_over w.dom w.db (Atom rel terms)) = atom_rows rel terms old one two tests scan from ready small can.arity can.cells first e_tests second w in
             stands_from w (Atom rel terms) old.nodes new.nodes i made labels made_labels scope p fit s alike
             (last.means w.K w.feeds p (holds_over w.dom w.db (Atom rel terms)) w.coding here.means atoms s.looks
             (λ t u agree. depends w.dom w.db (Atom rel terms) t u (λ x at. agree x (subst (In x) (occurrences_atom rel terms) at))));

@@ -1,9 +1,9 @@
 -- What is ready to be compiled, in its parts.
-use Rattle.std.proofs.Common.{◌≡◌, true, not, List, sym, ◌∙◌, subst, Option}
-use Rattle.std.specs.List.{list_any}
+use Rattle.std.proofs.Common.{◌≡◌, ℕ, zero, suc, true, not, List, [], ◌∷◌, drop, sym, ◌∙◌, subst, Option}
+use Rattle.std.specs.List.{list_any, list_all, flat_map}
 use Rattle.std.proofs.lemmas.Bool.{true≢false, and_parts}
 use Rattle.dbn_value.specs.Members.{In}
-use Rattle.dbn_value.proofs.MemberLaws.{all_at, flat_in}
+use Rattle.dbn_value.proofs.MemberLaws.{all_at, flat_in, append_right}
 use Rattle.dbn_value.specs.declared.value.Value.{Value}
 use Rattle.dbn_value.specs.declared.term.Var.{Var}
 use Rattle.dbn_formula.specs.Variables.{TypedVars, binds}
@@ -16,6 +16,7 @@ use Rattle.dbn_formula.specs.declared.formula.Formula.TheVariants.{And, Or, Not,
 use Rattle.dbn_formula.proofs.ConstantsLaws.{constants_and, constants_or, constants_not, constants_exists}
 use Rattle.dbn_formula.proofs.TypingLaws.{arity_and, arity_or, arity_not, arity_exists}
 use Rattle.dbn_formula.proofs.SafeLaws.{in_order_not, in_order_implies, in_order_exists, in_order_forall}
+use Rattle.dbn_plan.specs.Columns.{HaveCells}
 use Rattle.dbn_plan.specs.Making.{IsReady}
 use Rattle.dbn_plan.proofs.MadeLaws.{part_safe}
 
@@ -28,6 +29,23 @@ module _ {C : Type 0} (cell_of : Value → Option C) (rels : Shapes) where
         arity = all_at (arity_fits rels) f fs (sym (arity_and rels fs) ∙ ready.arity) at;
         cells = λ v here. ready.cells v (subst (In v) (sym (constants_and fs)) (flat_in constants v f fs at here));
       })
+
+  -- what stands from some place on
+  pub and_arity : (now : Shapes) (bound : List Var) (i : ℕ) (fs : List Formula) → now ≡ rels → IsReady cell_of rels bound (And fs) → list_all (arity_fits now) (drop i fs) ≡ true
+  and_arity now bound i fs e ready = subst (λ rs. list_all (arity_fits rs) (drop i fs) ≡ true) (sym e) (behind i fs (sym (arity_and rels fs) ∙ ready.arity))
+    where
+      behind : (i : ℕ) (fs : List Formula) → list_all (arity_fits rels) fs ≡ true → list_all (arity_fits rels) (drop i fs) ≡ true
+      behind zero fs all = all
+      behind (suc i) [] all = all
+      behind (suc i) (f ∷ fs) all = behind i fs (and_parts (arity_fits rels f) (list_all (arity_fits rels) fs) all).1
+
+  pub and_cells : (bound : List Var) (i : ℕ) (fs : List Formula) → IsReady cell_of rels bound (And fs) → HaveCells cell_of (flat_map constants (drop i fs))
+  and_cells bound i fs ready v at = ready.cells v (subst (In v) (sym (constants_and fs)) (behind i fs v at))
+    where
+      behind : (i : ℕ) (fs : List Formula) (v : Value) → In v (flat_map constants (drop i fs)) → In v (flat_map constants fs)
+      behind zero fs v at = at
+      behind (suc i) [] v at = at
+      behind (suc i) (f ∷ fs) v at = append_right v (constants f) (flat_map constants fs) (behind i fs v at)
 
   pub or_ready : (bound : List Var) (fs : List Formula) (f : Formula) → In f fs → IsReady cell_of rels bound (Or fs) → IsReady cell_of rels bound f
   or_ready bound fs f at ready = record {

@@ -2,6 +2,8 @@
 use Rattle.std.proofs.Common.{◌≡◌, ◌<◌, ℕ, ℤ, inl, ⊎_elim, Bool, true, false, not, ◌&&◌, ◌||◌, List, [], ◌∷◌, ◌++◌, map, refl, ap, sym, ◌∙◌, subst, Option, Some, length}
 use Rattle.std.specs.declared.cmp.Ordering.{Ordering}
 use Rattle.std.specs.List.{list_any, list_all, flat_map, AllByRecursion}
+use Rattle.std.proofs.lemmas.List.{append_assoc}
+use Rattle.std.proofs.lemmas.List.Concat.{flat_map-append}
 use Rattle.std.proofs.lemmas.Bool.{true≢false, and_parts, and_from, or_cases, or_right, not-true, not_from_false, false_from_ne_true}
 use Rattle.dbn_value.specs.Members.{In}
 use Rattle.dbn_value.proofs.MemberLaws.{all_at, all_from, append_left, append_right, fails_at, recursion_from}
@@ -69,6 +71,44 @@ turn_alike [] xs ys alike = refl
 turn_alike (f ∷ fs) xs ys alike =
     ap (λ b. b && in_turn (map as_level fs) (xs ++ occurrences f)) (in_order_alike f xs ys alike)
     ∙ ap (λ b. safe_in_order f ys && b) (turn_alike fs (xs ++ occurrences f) (ys ++ occurrences f) (alike_append xs (occurrences f) ys (occurrences f) alike (alike_self (occurrences f))))
+
+pub turn_parts : (front rest : List Formula) (bound : List Var) → in_turn (map as_level (front ++ rest)) bound ≡ true
+    → (in_turn (map as_level front) bound ≡ true) × (in_turn (map as_level rest) (bound ++ flat_map occurrences front) ≡ true)
+turn_parts [] rest bound e = (refl, subst (λ xs. in_turn (map as_level rest) xs ≡ true) (sym (append_none bound)) e)
+  where
+    append_none : (xs : List Var) → xs ++ [] ≡ xs
+    append_none [] = refl
+    append_none (x ∷ xs) = ap (λ ys. x ∷ ys) (append_none xs)
+turn_parts (f ∷ front) rest bound e =
+    let parts = and_parts (safe_in_order f bound) (in_turn (map as_level (front ++ rest)) (bound ++ occurrences f)) e in
+    let tail = turn_parts front rest (bound ++ occurrences f) parts.1 in (
+      and_from (safe_in_order f bound) (in_turn (map as_level front) (bound ++ occurrences f)) parts.0 tail.0,
+      subst (λ xs. in_turn (map as_level rest) xs ≡ true) (append_assoc bound (occurrences f) (flat_map occurrences front)) tail.1,
+    )
+
+pub all_both : {A : Type 0} (P : A → Bool) (xs ys : List A) → list_all P (xs ++ ys) ≡ (list_all P xs && list_all P ys)
+all_both P [] ys = refl
+all_both P (x ∷ xs) ys = ap (λ b. P x && b) (all_both P xs ys) ∙ and_both (P x) (list_all P xs) (list_all P ys)
+
+-- of the parts in front, and of those behind
+pub front_fit : (consts : List Value) (rels : Shapes) (front rest : List Formula) (scope : TypedVars) (bound : List Var) → FitAll consts rels (front ++ rest) scope bound → Fit consts rels (And front) scope bound
+front_fit consts rels front rest scope bound fit = record {
+  safe_here = in_order_and front bound ∙ (turn_parts front rest bound fit.safe_here).0;
+  typed = types_and rels front scope ∙ (and_parts (list_all (λ g. types_fit rels g scope) front) (list_all (λ g. types_fit rels g scope) rest) (sym (all_both (λ g. types_fit rels g scope) front rest) ∙ fit.typed)).0;
+  once = distinct_and front ∙ (and_parts (list_all distinct front) (list_all distinct rest) (sym (all_both distinct front rest) ∙ fit.once)).0;
+  scoped = λ x at. fit.scoped x (subst (In x) (sym (flat_map-append occurrences front rest)) (append_left x (flat_map occurrences front) (flat_map occurrences rest) (subst (In x) (occurrences_and front) at)));
+  written = λ v at. fit.written v (subst (In v) (sym (flat_map-append constants front rest)) (append_left v (flat_map constants front) (flat_map constants rest) (subst (In v) (constants_and front) at)));
+}
+
+pub behind_fit : (consts : List Value) (rels : Shapes) (front rest : List Formula) (scope : TypedVars) (bound more : List Var) → Alike more (bound ++ flat_map occurrences front)
+    → FitAll consts rels (front ++ rest) scope bound → FitAll consts rels rest scope more
+behind_fit consts rels front rest scope bound more alike fit = record {
+  safe_here = turn_alike rest more (bound ++ flat_map occurrences front) alike ∙ (turn_parts front rest bound fit.safe_here).1;
+  typed = (and_parts (list_all (λ g. types_fit rels g scope) front) (list_all (λ g. types_fit rels g scope) rest) (sym (all_both (λ g. types_fit rels g scope) front rest) ∙ fit.typed)).1;
+  once = (and_parts (list_all distinct front) (list_all distinct rest) (sym (all_both distinct front rest) ∙ fit.once)).1;
+  scoped = λ x at. fit.scoped x (subst (In x) (sym (flat_map-append occurrences front rest)) (append_right x (flat_map occurrences front) (flat_map occurrences rest) at));
+  written = λ v at. fit.written v (subst (In v) (sym (flat_map-append constants front rest)) (append_right v (flat_map constants front) (flat_map constants rest) at));
+}
 
 pub first_fit : (consts : List Value) (rels : Shapes) (f : Formula) (fs : List Formula) (scope : TypedVars) (bound : List Var) → FitAll consts rels (f ∷ fs) scope bound → Fit consts rels f scope bound
 first_fit consts rels f fs scope bound fit = record {
@@ -307,6 +347,19 @@ module _ {C : Type 0} {R : C → C → Ordering} {int_of : C → Option ℤ} {ce
       stands_alike w after made made_labels scope (λ t. p2 t && list_all (λ g. holds_over w.dom w.db g t) fs) (λ t. p t && list_all (λ g. holds_over w.dom w.db g t) (f ∷ fs))
       (λ t. sym (and_both (p t) (holds_over w.dom w.db f t) (list_all (λ g. holds_over w.dom w.db g t) fs)))
       (rest w scope p2 (rest_fit consts rels f fs scope (vars_of labels) (vars_of middle_labels) alike fit) mid)
+
+  pub all_steps : (front fs : List Formula) (nodes between after : List (Node C)) (node middle made : ℕ) (labels middle_labels made_labels : List Term)
+      → Compiled R int_of cell_of consts rels (And front) nodes node labels between middle middle_labels
+      → Alike (vars_of middle_labels) (vars_of labels ++ flat_map occurrences front)
+      → CompiledAll R int_of cell_of consts rels fs between middle middle_labels after made made_labels
+      → CompiledAll R int_of cell_of consts rels (front ++ fs) nodes node labels after made made_labels
+  all_steps front fs nodes between after node middle made labels middle_labels made_labels first alike rest w scope p fit s =
+      let says : Env → Formula → Bool = λ t g. holds_over w.dom w.db g t in
+      let p2 : Env → Bool = λ t. p t && holds_over w.dom w.db (And front) t in
+      let mid : Stands R int_of w between middle middle_labels scope p2 = first w scope p (front_fit consts rels front fs scope (vars_of labels) fit) s in
+      stands_alike w after made made_labels scope (λ t. p2 t && list_all (says t) fs) (λ t. p t && list_all (says t) (front ++ fs))
+      (λ t. sym (and_both (p t) (holds_over w.dom w.db (And front) t) (list_all (says t) fs)) ∙ ap (λ b. p t && (b && list_all (says t) fs)) (holds_and w.dom w.db front t) ∙ ap (λ b. p t && b) (sym (all_both (says t) front fs)))
+      (rest w scope p2 (behind_fit consts rels front fs scope (vars_of labels) (vars_of middle_labels) alike fit) mid)
 
   pub and_compiled : (fs : List Formula) (nodes after : List (Node C)) (node made : ℕ) (labels made_labels : List Term)
       → CompiledAll R int_of cell_of consts rels fs nodes node labels after made made_labels → Compiled R int_of cell_of consts rels (And fs) nodes node labels after made made_labels

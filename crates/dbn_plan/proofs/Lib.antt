@@ -8,6 +8,7 @@ pub mod DrawnLaws
 pub mod EasedPlans
 pub mod EasingKept
 pub mod EasingLaws
+pub mod EquatedMade
 pub mod FormsReady
 pub mod FormulaLaws
 pub mod MadeLaws

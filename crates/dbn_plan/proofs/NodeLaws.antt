@@ -218,6 +218,63 @@ module _ {C : Type 0} {R : C → C → Ordering} (o : IsTotalOrder R) (exact : I
       let same : c.0 ≡ d.0 = exact c.0 d.0 ((Equal-is (R c.0 d.0)).0 tied) in
       one (lookup s x) (lookup t x) d.0 (c.2 ∙ ap Some same) d.2
 
+  and_three : (a b c : Bool) → (a && (b && c)) ≡ ((a && b) && c)
+  and_three true b c = refl
+  and_three false b c = refl
+
+  matched_both : (on more : List (ℕ × ℕ)) (a b : List C) → matched R (on ++ more) a b ≡ (matched R on a b && matched R more a b)
+  matched_both [] more a b = refl
+  matched_both (pair ∷ on) more a b =
+      ap (λ c. cells_meet R cmp.Eq (slice_get a pair.0) (slice_get b pair.1) && c) (matched_both on more a b)
+      ∙ and_three (cells_meet R cmp.Eq (slice_get a pair.0) (slice_get b pair.1)) (matched R on a b) (matched R more a b)
+
+  -- more pairs say what r says
+  pub join_where_means : (ls rs : List (List C)) (labels others : List Term) (on more : List (ℕ × ℕ)) (p q r : Env → Bool) → Means K ls labels p → Means K rs others q
+      → LooksAt (vars_of labels) p → LooksAt (vars_of others) q → Pairs on labels others
+      → ((t : Env) (a b : List C) → Gives K t labels a → Gives K t others b → matched R more a b ≡ r t)
+      → Means K (joined R (on ++ more) ls rs) (labels ++ others) (λ t. (p t && q t) && r t)
+  join_where_means ls rs labels others on more p q r left right looks_p looks_q pairs says = record {
+    each = λ row at.
+        let one_left = in_flat (λ a. map (λ b. a ++ b) (filter (matched R (on ++ more) a) rs)) row ls (in_ascending (slice_cmp R) row (flat_map (λ a. map (λ b. a ++ b) (filter (matched R (on ++ more) a) rs)) ls) at) in
+        let a : List C = one_left.0 in
+        let one_right = in_map (λ b. a ++ b) row (filter (matched R (on ++ more) a) rs) one_left.2 in
+        let b : List C = one_right.0 in
+        let within = in_filter (matched R (on ++ more) a) b rs one_right.1 in
+        let met = and_parts (matched R on a b) (matched R more a b) (sym (matched_both on more a b) ∙ within.1) in
+        let here = left.each a one_left.1 in
+        let there = right.each b within.0 in
+        let s : Env = here.0 in
+        let t : Env = there.0 in
+        let u : Env = over (vars_of labels) s t in
+        let u_s : Agree (vars_of labels) s u = λ x at. sym (over_own (vars_of labels) s t x at) in
+        let u_t : Agree (vars_of others) t u = λ x at.
+        elim (is_in x (vars_of labels)) as (λ c. is_in x (vars_of labels) ≡ c → lookup t x ≡ lookup u x) [
+          | true ↦ λ e.
+              let known : In x (vars_of labels) = in_of_is x (vars_of labels) e in
+              sym (matched_agree on labels others s t a b pairs here.1 there.1 met.0 x known at) ∙ u_s x known
+          | false ↦ λ e. sym (over_other (vars_of labels) s t x e)
+        ] refl in
+        let u_a : Gives K u labels a = gives_alike K labels s u a u_s here.1 in
+        let u_b : Gives K u others b = gives_alike K others t u b u_t there.1 in (
+          u,
+          subst (Gives K u (labels ++ others)) (sym one_right.2) (gives_both K labels others u a b u_a u_b),
+          and_from (p u && q u) (r u) (and_from (p u) (q u) (sym (looks_p s u u_s) ∙ here.2) (sym (looks_q t u u_t) ∙ there.2)) (sym (says u a b u_a u_b) ∙ met.1),
+        );
+    all = λ t e.
+        let whole = and_parts (p t && q t) (r t) e in
+        let parts = and_parts (p t) (q t) whole.0 in
+        let here = left.all t parts.0 in
+        let there = right.all t parts.1 in
+        let a : List C = here.0 in
+        let b : List C = there.0 in (
+          a ++ b,
+          gives_both K labels others t a b here.1 there.1,
+          ascending_in (lists_total o) rows_exact (a ++ b) (flat_map (λ a. map (λ b. a ++ b) (filter (matched R (on ++ more) a) rs)) ls)
+              (flat_in (λ a. map (λ b. a ++ b) (filter (matched R (on ++ more) a) rs)) (a ++ b) a ls here.2
+              (map_in (λ b. a ++ b) b (filter (matched R (on ++ more) a) rs) (filter_in (matched R (on ++ more) a) b rs there.2 (matched_both on more a b ∙ and_from (matched R on a b) (matched R more a b) (matched_from on labels others t a b pairs here.1 there.1) (says t a b here.1 there.1 ∙ whole.1))))),
+        );
+  }
+
   pub join_means : (ls rs : List (List C)) (labels others : List Term) (on : List (ℕ × ℕ)) (p q : Env → Bool) → Means K ls labels p → Means K rs others q
       → LooksAt (vars_of labels) p → LooksAt (vars_of others) q → Pairs on labels others
       → Means K (joined R on ls rs) (labels ++ others) (λ t. p t && q t)

@@ -1,10 +1,10 @@
 -- Steps of compiling, one after the other.
-use Rattle.std.proofs.Common.{◌≡◌, ◌<◌, ◌≤◌, ◌+◌, ◌*◌, Some, ℕ, ℤ, true, List, [], ◌∷◌, ◌++◌, map, refl, ap, sym, ◌∙◌, subst, Option, length, arith}
+use Rattle.std.proofs.Common.{◌≡◌, ◌<◌, ◌≤◌, ◌+◌, ◌*◌, Some, ℕ, ℤ, true, List, [], ◌∷◌, ◌++◌, map, refl, ap, sym, ◌∙◌, subst, Option, length, drop, take, arith}
 use Rattle.std.specs.declared.cmp.Ordering.{Ordering}
 use Rattle.std.specs.List.{list_all, flat_map}
 use Rattle.std.specs.Prelude.{slice_get}
 use Rattle.std.proofs.lemmas.Bool.{and_parts}
-use Rattle.std.proofs.lemmas.List.{append_assoc, length-append}
+use Rattle.std.proofs.lemmas.List.{append_assoc, length-append, drop-drop, take-append-drop}
 use Rattle.dbn_value.specs.Members.{In}
 use Rattle.dbn_value.specs.declared.value.Value.{Value}
 use Rattle.dbn_value.specs.declared.term.Var.{Var}
@@ -32,7 +32,9 @@ use Rattle.dbn_plan.specs.Compiled.{Compiled}
 use Rattle.dbn_plan.specs.declared.sources.Sources.{Sources}
 use Rattle.dbn_plan.specs.Columns.{HaveCells}
 use Rattle.dbn_plan.specs.Making.{IsOpen, Grown, Placed, AreSources, IsReady, Made, rate}
-use Rattle.dbn_plan.proofs.FormulaLaws.{CompiledAll, all_none, all_step, and_compiled, turn_alike}
+use Rattle.dbn_plan.specs.Equated.{AllMade}
+use Rattle.std.proofs.lemmas.List.Concat.{flat_map-append}
+use Rattle.dbn_plan.proofs.FormulaLaws.{CompiledAll, all_none, all_step, all_steps, and_compiled, turn_alike, turn_parts}
 
 module _ {C : Type 0} where
   pub grown_none : (s : State C) → Grown s s
@@ -179,6 +181,48 @@ module _ {C : Type 0} {R : C → C → Ordering} {int_of : C → Option ℤ} (ce
         (subst (λ rs. Compiled R int_of cell_of consts rs f mid.nodes now now_labels new.nodes made made_labels) so.grown.rels step.compiled)
         step.labelled.bound all);
   }
+
+  -- several at once
+  pub so_far_many : (front fs rest : List Formula) (old mid new : State C) (node : ℕ) (labels : List Term) (now : ℕ) (now_labels : List Term) (made : ℕ) (made_labels : List Term)
+      → AllSoFar R int_of cell_of consts fs (front ++ rest) old mid node labels now now_labels → AllMade R int_of cell_of consts front mid new now now_labels made made_labels
+      → AllSoFar R int_of cell_of consts fs rest old new node labels made made_labels
+  so_far_many front fs rest old mid new node labels now now_labels made made_labels so step =
+      let turns = turn_parts front rest (vars_of now_labels) so.turn in
+      record {
+        grown = grown_then old mid new so.grown step.grown;
+        few =
+            let before = so.few in
+            let here = subst (λ rs. length new.nodes + 4 ≤ length mid.nodes + rate rs * total (map size front)) so.grown.rels step.few in
+            let both = ap (λ n. rate old.rels * n) (total_both front rest) in
+            omega (arith, before, here, both);
+        ready = open_after mid new step.grown so.ready;
+        placed = step.placed;
+        keeps = λ a at. step.labelled.keeps a (so.keeps a at);
+        vars = alike_then (vars_of made_labels ++ flat_map occurrences rest) (vars_of now_labels ++ flat_map occurrences (front ++ rest)) (vars_of labels ++ flat_map occurrences fs)
+            (alike_then (vars_of made_labels ++ flat_map occurrences rest) ((vars_of now_labels ++ flat_map occurrences front) ++ flat_map occurrences rest) (vars_of now_labels ++ flat_map occurrences (front ++ rest))
+            (alike_append (vars_of made_labels) (flat_map occurrences rest) (vars_of now_labels ++ flat_map occurrences front) (flat_map occurrences rest) step.labelled.bound (alike_self (flat_map occurrences rest)))
+            (alike_same ((vars_of now_labels ++ flat_map occurrences front) ++ flat_map occurrences rest) (vars_of now_labels ++ flat_map occurrences (front ++ rest))
+            (append_assoc (vars_of now_labels) (flat_map occurrences front) (flat_map occurrences rest) ∙ ap (λ xs. vars_of now_labels ++ xs) (sym (flat_map-append occurrences front rest)))))
+            so.vars;
+        turn = turn_alike rest (vars_of made_labels) (vars_of now_labels ++ flat_map occurrences front) step.labelled.bound ∙ turns.1;
+        rest_is = λ after last last_labels all.
+            so.rest_is after last last_labels (all_steps front rest mid.nodes new.nodes after now made last now_labels made_labels last_labels
+            (subst (λ rs. Compiled R int_of cell_of consts rs (And front) mid.nodes now now_labels new.nodes made made_labels) so.grown.rels step.compiled)
+            step.labelled.bound all);
+      }
+    where
+      total_both : (xs ys : List Formula) → total (map size (xs ++ ys)) ≡ total (map size xs) + total (map size ys)
+      total_both [] ys = omega arith
+      total_both (x ∷ xs) ys = let e = total_both xs ys in omega (arith, e)
+
+  -- the next two at once
+  pub so_far_two : (i : ℕ) (fs : List Formula) (old mid new : State C) (node : ℕ) (labels : List Term) (now : ℕ) (now_labels : List Term) (made : ℕ) (made_labels : List Term)
+      → AllSoFar R int_of cell_of consts fs (drop i fs) old mid node labels now now_labels → AllMade R int_of cell_of consts (take 2 (drop i fs)) mid new now now_labels made made_labels
+      → AllSoFar R int_of cell_of consts fs (drop (i + 2) fs) old new node labels made made_labels
+  so_far_two i fs old mid new node labels now now_labels made made_labels so step =
+      subst (λ rest. AllSoFar R int_of cell_of consts fs rest old new node labels made made_labels) (drop-drop 2 i fs)
+      (so_far_many (take 2 (drop i fs)) fs (drop 2 (drop i fs)) old mid new node labels now now_labels made made_labels
+      (subst (λ rest. AllSoFar R int_of cell_of consts fs rest old mid node labels now now_labels) (sym (take-append-drop 2 (drop i fs))) so) step)
 
   pub so_far_end : (fs : List Formula) (old new : State C) (node : ℕ) (labels : List Term) (now : ℕ) (now_labels : List Term)
       → AllSoFar R int_of cell_of consts fs [] old new node labels now now_labels → Made R int_of cell_of consts (And fs) old new node labels now now_labels

@@ -1,19 +1,19 @@
 -- The steps that every form of formula is made of: a selection, a join, a projection, and no rows.
-use Rattle.std.proofs.Common.{◌≡◌, ◌<◌, ◌+◌, ℕ, ℤ, suc, inl, inr, true, not, ◌&&◌, List, [], ◌∷◌, ◌++◌, refl, ap, sym, ◌∙◌, subst, Option, Some, length, arith}
+use Rattle.std.proofs.Common.{◌≡◌, ◌<◌, ◌+◌, ℕ, ℤ, suc, inl, inr, ⊎_elim, Bool, true, false, not, ◌&&◌, List, [], ◌∷◌, ◌++◌, refl, ap, sym, ◌∙◌, subst, Option, Some, length, arith}
 use Rattle.std.specs.Prelude.{slice_get}
 use Rattle.std.specs.declared.cmp.Ordering.{Ordering}
 use Rattle.std.proofs.lemmas.Bool.{true≢false, not-true}
 use Rattle.std.proofs.lemmas.List.{length-append}
 use Rattle.std.proofs.lemmas.Option.{slice_get_within}
 use Rattle.dbn_value.specs.Members.{In}
-use Rattle.dbn_value.proofs.MemberLaws.{filter_all, in_filter}
+use Rattle.dbn_value.proofs.MemberLaws.{filter_all, in_filter, in_append}
 use Rattle.dbn_value.specs.declared.term.Term.{Term}
 use Rattle.dbn_value.specs.declared.term.Term.TheVariants as term
 use Rattle.dbn_formula.specs.Holds.{Env}
 use Rattle.dbn_nodes.specs.declared.node.Node.TheVariants as node
 use Rattle.dbn_nodes.specs.declared.node.ColTest.{ColTest}
 use Rattle.dbn_nodes.specs.Tables.{has}
-use Rattle.dbn_nodes.specs.Values.{selected, joined}
+use Rattle.dbn_nodes.specs.Values.{selected, joined, cells_meet}
 use Rattle.std.specs.Cmp.Lexicographic.{slice_cmp}
 use Rattle.dbn_network.specs.Values.{val}
 use Rattle.dbn_network.specs.States.{State, Fits, TestIn, state_widths, width_at, feed_widths, with_node}
@@ -21,9 +21,11 @@ use Rattle.dbn_plan.specs.declared.sources.Sources.{Sources}
 use Rattle.dbn_plan.specs.Meaning.{Means, vars_of}
 use Rattle.dbn_plan.specs.Columns.{Labelled}
 use Rattle.dbn_plan.specs.Making.{Placed, AreSources, Selected, Joined, Shown, NoneMade, IsProjection}
+use Rattle.dbn_plan.specs.Equated.{JoinedBy}
+use Rattle.dbn_value.specs.declared.term.Cmp.TheVariants as cmp
 use Rattle.dbn_plan.proofs.Places.{val_unit, width_unit, there_last}
 use Rattle.dbn_plan.proofs.Rows.{gives_alike}
-use Rattle.dbn_plan.proofs.NodeLaws.{Pairs, project_means, join_means, means_alike, in_row}
+use Rattle.dbn_plan.proofs.NodeLaws.{Pairs, project_means, join_means, join_where_means, means_alike, in_row}
 use Rattle.dbn_plan.proofs.StepLaws.{grown_none, grown_at, one_more_node, placed_at, val_at}
 
 pub append_nil : {A : Type 0} (xs : List A) → xs ++ [] ≡ xs
@@ -110,6 +112,45 @@ join_fits s i labels other others on pairs left right = record {
         subst (λ n. pair.1 < n) (sym right.wide) (slice_get_within others pair.1 (term.Var named.0) named.2),
       );
 }
+
+-- a pair of columns that are there besides
+pub join_by_fits : {C : Type 0} (s : State C) (i : ℕ) (labels : List Term) (other : ℕ) (others : List Term) (on : List (ℕ × ℕ)) (pair : ℕ × ℕ) → Pairs on labels others → Placed s i labels
+    → Placed s other others → pair.0 < length labels → pair.1 < length others → Fits s (node.Join i other (on ++ pair ∷ []))
+join_by_fits s i labels other others on pair pairs left right small_left small_right = record {
+  left = left.there;
+  right = right.there;
+  names = λ one at.
+      ⊎_elim (λ here. (join_fits s i labels other others on pairs left right).names one here)
+      (λ last.
+      ⊎_elim
+      (λ is. (
+        subst (λ n. one.0 < n) (sym left.wide) (subst (λ (x : ℕ × ℕ). x.0 < length labels) (sym is) small_left),
+        subst (λ n. one.1 < n) (sym right.wide) (subst (λ (x : ℕ × ℕ). x.1 < length others) (sym is) small_right),
+      ))
+      (λ none. absurd none) last)
+      (in_append one on (pair ∷ []) at);
+}
+
+module _ {C : Type 0} (R : C → C → Ordering) (int_of : C → Option ℤ) where
+  pub joined_by_made : (old new : State C) (i : ℕ) (labels : List Term) (other : ℕ) (others : List Term) (on : List (ℕ × ℕ)) (pair : ℕ × ℕ) (made : ℕ) (made_labels : List Term) → Pairs on labels others
+      → new ≡ with_node old (node.Join i other (on ++ pair ∷ [])) → made ≡ length old.nodes → made_labels ≡ labels ++ others → Placed old i labels → Placed old other others
+      → JoinedBy R int_of old new i labels other others pair made made_labels
+  joined_by_made old new i labels other others on pair made made_labels pairs e_new e_made e_labels placed there = record {
+    grown = grown_at old new (node.Join i other (on ++ pair ∷ [])) e_new;
+    few = one_more_node old new (node.Join i other (on ++ pair ∷ [])) e_new;
+    placed = placed_at old new (node.Join i other (on ++ pair ∷ [])) made made_labels e_new e_made
+        (ap (λ n. n + width_at (state_widths old) other) placed.wide ∙ ap (λ n. length labels + n) there.wide ∙ sym (length-append labels others) ∙ ap length (sym e_labels));
+    labelled = e_labels;
+    means = λ K feeds p q r coding left right looks_p looks_q says.
+        subst (λ rows. Means K rows made_labels (λ t. (p t && q t) && r t)) (sym (val_at R feeds old new (node.Join i other (on ++ pair ∷ [])) made e_new e_made))
+        (subst (λ ls. Means K (joined R (on ++ pair ∷ []) (val R i old.nodes feeds) (val R other old.nodes feeds)) ls (λ t. (p t && q t) && r t)) (sym e_labels)
+        (join_where_means coding.total coding.exact K coding.one (val R i old.nodes feeds) (val R other old.nodes feeds) labels others on (pair ∷ []) p q r left right looks_p looks_q pairs
+        (λ t a b ga gb. and_none (cells_meet R cmp.Eq (slice_get a pair.0) (slice_get b pair.1)) ∙ says t a b ga gb)));
+  }
+    where
+      and_none : (b : Bool) → (b && true) ≡ b
+      and_none true = refl
+      and_none false = refl
 
 -- ---- a projection
 

@@ -64,3 +64,11 @@ module _ {C : Type 0} {R : C → C → Ordering} {int_of : C → Option ℤ} (K 
   constant_pass k labels i a v cell t row at_i own given fit =
       let c = cell_at K labels t row i a given at_i in
       ap (λ m. cells_meet R k m (Some cell)) c.1 ∙ cells_compare k (value_of t a) v c.0 cell c.2 own fit
+
+  -- the same over two rows
+  pub rows_meet : (labels others : List Term) (i j : ℕ) (x y : Term) (t : Env) (a b : List C) → slice_get labels i ≡ Some x → slice_get others j ≡ Some y → Gives K t labels a → Gives K t others b
+      → cells_meet R cmp.Eq (slice_get a i) (slice_get b j) ≡ meets cmp.Eq (value_cmp (value_of t x) (value_of t y))
+  rows_meet labels others i j x y t a b at_i at_j given_a given_b =
+      let c = cell_at K labels t a i x given_a at_i in
+      let d = cell_at K others t b j y given_b at_j in
+      ap (λ m. cells_meet R cmp.Eq m (slice_get b j)) c.1 ∙ ap (cells_meet R cmp.Eq (Some c.0)) d.1 ∙ cells_compare cmp.Eq (value_of t x) (value_of t y) c.0 d.0 c.2 d.2 tt

@@ -3,6 +3,7 @@ pub mod Columns
 pub mod Comparing
 pub mod Compiled
 pub mod Easing
+pub mod Equated
 pub mod Filling
 pub mod Making
 pub mod Meaning

@@ -9,6 +9,7 @@ ghost use Rattle.dbn_plan.specs.Making.{IsOpen, Placed, AreSources, IsReady, IsU
 use super::atom::atom;
 use super::comparison::comparison;
 use super::context::{Context, copy_context};
+use super::equated::equated_atom;
 use super::labels::{chosen_labels, labels_behind};
 use super::room::with_room;
 use super::sources::Sources;
@@ -68,8 +69,18 @@ pub(crate) fn all_parts<P: Coder>(
     ensures { IfOk result (λ b. Made P.Cell.cmp P.Cell.int_of (P.cell_of coder.now) sources.now.consts (Formula.And parts.now) network.old network.new at.now.node at.now.labels b.node b.labels) }
 {
     let mut now = copy_context(alloc, at)?;
-    for part in parts {
-        now = compile_at(alloc, part, &now, sources, coder, network)?;
+    let mut done = 0;
+    while done < parts.len() {
+        match equated_atom(alloc, &parts[done..], &now, sources, coder, network)? {
+            Some(next) => {
+                now = next;
+                done = done + 2;
+            }
+            None => {
+                now = compile_at(alloc, &parts[done], &now, sources, coder, network)?;
+                done = done + 1;
+            }
+        }
     }
     Ok(now)
 }

@@ -6,6 +6,7 @@ mod columns;
 mod comparison;
 mod context;
 mod easing;
+mod equated;
 mod forms;
 mod labels;
 mod laws;

@@ -401,21 +401,19 @@ fn nodes_of(alloc: Global, text: &str) -> Result<String, Fail> {
 /// The columns of relations, a formula, the variables of a query, and facts that come or go, each with the rows of the query then;
 /// below them the nodes of the query, the last of which tells its rows.
 const QUERIES: &str = "\
-e td te;1td =tu & 1ue & #tu #de | & Etdue;;1Aa=,1Bb=,1Ab=.,1Aa=
+e td te;1td =tu 1ue & & #tu #de | & Etdue;;1Aa=,1Bb=,1Ab=.,1Aa=
 Unit
 Scan { feed: 1 }
-Extend { from: 1, with: Copied(0) }
-Join { left: 2, right: 1, on: Items { items: [(2, 0)] } }
-Select { from: 3, tests: Items { items: [Columns { cmp: Ne, left: 1, right: 4 }] } }
-Project { from: 4, cols: Nums { nums: [] } }
+Join { left: 1, right: 1, on: Items { items: [(0, 0)] } }
+Select { from: 2, tests: Items { items: [Columns { cmp: Ne, left: 1, right: 3 }] } }
+Project { from: 3, cols: Nums { nums: [] } }
 
-e td te;2te =tu & 2ud & #tu #ed | & Eteud;;2Aa=,2Ab=.,2Aa=
+e td te;2te =tu 2ud & & #tu #ed | & Eteud;;2Aa=,2Ab=.,2Aa=
 Unit
 Scan { feed: 2 }
-Extend { from: 1, with: Copied(0) }
-Join { left: 2, right: 1, on: Items { items: [(2, 0)] } }
-Select { from: 3, tests: Items { items: [Columns { cmp: Ne, left: 1, right: 4 }] } }
-Project { from: 4, cols: Nums { nums: [] } }
+Join { left: 1, right: 1, on: Items { items: [(0, 0)] } }
+Select { from: 2, tests: Items { items: [Columns { cmp: Ne, left: 1, right: 3 }] } }
+Project { from: 3, cols: Nums { nums: [] } }
 
 e td te;2te 1td Ed ! & Ete;;2Aa=.,1Aj=,2Ba=.,2Ba=,1Aj=.
 Unit

@@ -1,58 +1,91 @@
 use Rattle.std.proofs.Common.{◌≡◌, ◌+◌, ◌<◌, ◌≤◌, true, map, [], ◌∷◌, ◌++◌, drop, take, ap, sym, ◌∙◌, subst, length, sum_by, arith, get_or}
-use Rattle.std.proofs.lemmas.List.{drop_all, drop_more, take_all, take_more}
+use Rattle.std.specs.Prelude.{Option, IfSome, IfNone, ◌-◌}
+use Rattle.std.specs.List.{list_all, flat_map}
+use Rattle.std.proofs.lemmas.List.{drop_all, drop_more, take_all, take_more, take_rest}
 use Rattle.std.proofs.lemmas.List.Sums.{get_or-le-sum_by}
 use Rattle.std.proofs.lemmas.Result.{IfOk-weaker}
 use Rattle.dbn_value.specs.Members.{In}
 use Rattle.dbn_value.proofs.MemberLaws.{in_get_or}
 use Rattle.dbn_formula.specs.declared.formula.Formula.{Formula}
 use Rattle.dbn_formula.specs.declared.formula.Formula.TheVariants.{And, Not, Exists, Or}
+use Rattle.dbn_formula.specs.Answers.{constants}
 use Rattle.dbn_formula.specs.Free.{occurrences}
+use Rattle.dbn_formula.specs.Typing.{arity_fits}
 use Rattle.dbn_formula.specs.Safe.{in_turn, as_level}
 use Rattle.dbn_formula.proofs.Weights.{weight, weight_and, weight_not, weight_exists, weight_or}
 use Rattle.dbn_formula.proofs.SafeLaws.{in_order_and}
 use Rattle.dbn_plan.specs.declared.context.Context.{Context}
+use Rattle.dbn_plan.specs.Columns.{HaveCells}
+use Rattle.dbn_plan.specs.Equated.{AllMade}
 use Rattle.dbn_plan.specs.Meaning.{vars_of}
 use Rattle.dbn_formula.specs.Free.{unhidden}
 use Rattle.dbn_formula.specs.Variables.{firsts}
 use Rattle.dbn_nodes.specs.declared.node.Node.TheVariants as node
 use Rattle.dbn_plan.specs.Making.{Grown, IsReady, IsUnion, Made, RoomMade, SomeMade, WithVars}
-use Rattle.dbn_plan.proofs.StepLaws.{AllSoFar, so_far_start, so_far_step, so_far_end, first_safe, open_after, placed_after, sources_after, grown_then, grown_at}
-use Rattle.dbn_plan.proofs.FormsReady.{and_ready, not_ready, exists_ready, or_ready, never_implies, never_forall}
+use Rattle.dbn_plan.proofs.StepLaws.{AllSoFar, so_far_start, so_far_step, so_far_two, so_far_end, first_safe, open_after, placed_after, sources_after, grown_then, grown_at}
+use Rattle.dbn_plan.proofs.FormsReady.{and_ready, and_arity, and_cells, not_ready, exists_ready, or_ready, never_implies, never_forall}
 use Rattle.dbn_plan.proofs.MadeLaws.{denial_made, choice_made, nothing_made, part_made, union_made, or_made, wanted_there, first_labels, chosen_there, union_fits, none_there, some_there, union_kept}
 use Rattle.dbn_plan.proofs.StepsMade.{diff_fits}
 use Rattle.dbn_plan.proofs.forms.+compiled.Goals as goal
 
 -- ---- `and`
 
-pub all_parts-loop-part-init : goal.all_parts-loop-part-init
-all_parts-loop-part-init g t c =
+pub all_parts-loop-done-init : goal.all_parts-loop-done-init
+all_parts-loop-done-init g t c =
     subst (λ (b : Context). AllSoFar g.P.Cell.Ord.cmp g.P.Cell.Cell.int_of (g.P.Coder.cell_of c.args.coder.now) c.args.sources.now.consts c.args.parts.now c.args.parts.now c.args.network.now c.args.network.now c.args.at.now.node c.args.at.now.labels b.node b.labels)
     (sym c.in_ok-now.ensures)
     (so_far_start (g.P.Coder.cell_of c.args.coder.now) c.args.sources.now.consts c.args.parts.now c.args.network.now c.args.at.now.node c.args.at.now.labels c.requires.open c.requires.placed
     (sym (in_order_and c.args.parts.now (vars_of c.args.at.now.labels)) ∙ c.requires.ready.safe))
 
+pub all_parts-equated_atom-requires-clause-sources : goal.all_parts-equated_atom-requires-clause-sources
+all_parts-equated_atom-requires-clause-sources g t c = sources_after c.args.network.now c.loop-done.network c.args.sources.now c.loop-done.invariant.grown c.requires.sources
+
+pub all_parts-equated_atom-requires-clause-arity : goal.all_parts-equated_atom-requires-clause-arity
+all_parts-equated_atom-requires-clause-arity g t c =
+    subst (λ fs. list_all (arity_fits c.loop-done.network.rels) fs ≡ true) (sym (take_rest c.args.parts.now c.loop-done.done))
+    (and_arity (g.P.Coder.cell_of c.args.coder.now) c.args.network.now.rels c.loop-done.network.rels (vars_of c.args.at.now.labels) c.loop-done.done c.args.parts.now c.loop-done.invariant.grown.rels c.requires.ready)
+
+pub all_parts-equated_atom-requires-clause-cells : goal.all_parts-equated_atom-requires-clause-cells
+all_parts-equated_atom-requires-clause-cells g t c =
+    subst (λ fs. HaveCells (g.P.Coder.cell_of c.args.coder.now) (flat_map constants fs)) (sym (take_rest c.args.parts.now c.loop-done.done))
+    (and_cells (g.P.Coder.cell_of c.args.coder.now) c.args.network.now.rels (vars_of c.args.at.now.labels) c.loop-done.done c.args.parts.now c.requires.ready)
+
+pub all_parts-loop-done-preserved-in-Some : goal.all_parts-loop-done-preserved-in-Some
+all_parts-loop-done-preserved-in-Some g t c =
+    let parts = c.args.parts.now in
+    let i = c.loop-done.done in
+    let rest = take (length parts - i) (drop i parts) in
+    let found =
+    subst (λ (m : Option Context). IfSome m (λ b. (1 < length rest) × AllMade g.P.Cell.Ord.cmp g.P.Cell.Cell.int_of (g.P.Coder.cell_of c.args.coder.now) c.args.sources.now.consts (take 2 rest) c.loop-done.network c.equated_atom.new.network c.loop-done.now.node c.loop-done.now.labels b.node b.labels))
+    c.in-Some.is c.in_ok-next.ensures.some in
+    so_far_two (g.P.Coder.cell_of c.args.coder.now) c.args.sources.now.consts i parts c.args.network.now c.loop-done.network c.equated_atom.new.network c.args.at.now.node c.args.at.now.labels
+    c.loop-done.now.node c.loop-done.now.labels c.in-Some.next.node c.in-Some.next.labels c.loop-done.invariant
+    (subst (λ fs. AllMade g.P.Cell.Ord.cmp g.P.Cell.Cell.int_of (g.P.Coder.cell_of c.args.coder.now) c.args.sources.now.consts (take 2 fs) c.loop-done.network c.equated_atom.new.network c.loop-done.now.node c.loop-done.now.labels c.in-Some.next.node c.in-Some.next.labels) (take_rest parts i) found.1)
+
 pub all_parts-compile_at-requires : goal.all_parts-compile_at-requires
 all_parts-compile_at-requires g t c κs within =
     let parts = c.args.parts.now in
-    let i = c.loop-part.part-index in
-    let part = c.part-item.result in
-    let small : weight (get_or parts i part) ≤ sum_by weight parts = get_or-le-sum_by weight parts i part c.loop-part-test.true in
-    let is : weight part ≡ weight (get_or parts i part) = ap weight c.part-item.is in
-    let front : drop i parts ≡ part ∷ drop (i + 1) parts = drop_more parts i part c.loop-part-test.true ∙ ap (λ f. f ∷ drop (i + 1) parts) (sym c.part-item.is) in
-    let at : In part parts = subst (λ f. In f parts) (sym c.part-item.is) (in_get_or parts i part c.loop-part-test.true) in (
+    let i = c.loop-done.done in
+    let part = c.index-parts-done.result in
+    let same : c.equated_atom.new.network ≡ c.loop-done.network = subst (λ (m : Option Context). IfNone m (c.equated_atom.new.network ≡ c.loop-done.network)) c.in-None.is c.in_ok-next.ensures.none in
+    let so = subst (λ n. AllSoFar g.P.Cell.Ord.cmp g.P.Cell.Cell.int_of (g.P.Coder.cell_of c.args.coder.now) c.args.sources.now.consts parts (drop i parts) c.args.network.now n c.args.at.now.node c.args.at.now.labels c.loop-done.now.node c.loop-done.now.labels) (sym same) c.loop-done.invariant in
+    let small : weight (get_or parts i part) ≤ sum_by weight parts = get_or-le-sum_by weight parts i part c.loop-done-test.true in
+    let is : weight part ≡ weight (get_or parts i part) = ap weight c.index-parts-done.is in
+    let front : drop i parts ≡ part ∷ drop (i + 1) parts = drop_more parts i part c.loop-done-test.true ∙ ap (λ f. f ∷ drop (i + 1) parts) (sym c.index-parts-done.is) in
+    let at : In part parts = subst (λ f. In f parts) (sym c.index-parts-done.is) (in_get_or parts i part c.loop-done-test.true) in (
       omega (arith, small, is),
       (
         within.0,
         (
           within.1,
           (
-            c.loop-part.invariant.ready,
+            so.ready,
             (
-              c.loop-part.invariant.placed,
+              so.placed,
               (
-                sources_after c.args.network.now c.loop-part.network c.args.sources.now c.loop-part.invariant.grown c.requires.sources,
-                and_ready (g.P.Coder.cell_of c.args.coder.now) c.args.network.now.rels c.loop-part.network.rels (vars_of c.args.at.now.labels) (vars_of c.loop-part.now.labels) parts part at c.loop-part.invariant.grown.rels c.requires.ready
-                    (first_safe part (drop (i + 1) parts) (vars_of c.loop-part.now.labels) (subst (λ fs. in_turn (map as_level fs) (vars_of c.loop-part.now.labels) ≡ true) front c.loop-part.invariant.turn)),
+                sources_after c.args.network.now c.equated_atom.new.network c.args.sources.now so.grown c.requires.sources,
+                and_ready (g.P.Coder.cell_of c.args.coder.now) c.args.network.now.rels c.equated_atom.new.network.rels (vars_of c.args.at.now.labels) (vars_of c.loop-done.now.labels) parts part at so.grown.rels c.requires.ready
+                    (first_safe part (drop (i + 1) parts) (vars_of c.loop-done.now.labels) (subst (λ fs. in_turn (map as_level fs) (vars_of c.loop-done.now.labels) ≡ true) front so.turn)),
               ),
             ),
           ),
@@ -60,24 +93,24 @@ all_parts-compile_at-requires g t c κs within =
       ),
     )
 
-pub all_parts-loop-part-preserved : goal.all_parts-loop-part-preserved
-all_parts-loop-part-preserved g t c =
+pub all_parts-loop-done-preserved : goal.all_parts-loop-done-preserved
+all_parts-loop-done-preserved g t c =
     let parts = c.args.parts.now in
-    let i = c.loop-part.part-index in
-    let part = c.part-item.result in
-    let front : drop i parts ≡ part ∷ drop (i + 1) parts = drop_more parts i part c.loop-part-test.true ∙ ap (λ f. f ∷ drop (i + 1) parts) (sym c.part-item.is) in
-    so_far_step (g.P.Coder.cell_of c.args.coder.now) c.args.sources.now.consts part parts (drop (i + 1) parts) c.args.network.now c.loop-part.network c.compile_at.new.network c.args.at.now.node c.args.at.now.labels
-    c.loop-part.now.node c.loop-part.now.labels c.in_ok-now-2.now.node c.in_ok-now-2.now.labels
-    (subst (λ rest. AllSoFar g.P.Cell.Ord.cmp g.P.Cell.Cell.int_of (g.P.Coder.cell_of c.args.coder.now) c.args.sources.now.consts parts rest c.args.network.now c.loop-part.network c.args.at.now.node c.args.at.now.labels c.loop-part.now.node c.loop-part.now.labels)
-    front c.loop-part.invariant)
-    c.in_ok-now-2.ensures
+    let i = c.loop-done.done in
+    let part = c.index-parts-done.result in
+    let same : c.equated_atom.new.network ≡ c.loop-done.network = subst (λ (m : Option Context). IfNone m (c.equated_atom.new.network ≡ c.loop-done.network)) c.in-None.is c.in_ok-next.ensures.none in
+    let so = subst (λ n. AllSoFar g.P.Cell.Ord.cmp g.P.Cell.Cell.int_of (g.P.Coder.cell_of c.args.coder.now) c.args.sources.now.consts parts (drop i parts) c.args.network.now n c.args.at.now.node c.args.at.now.labels c.loop-done.now.node c.loop-done.now.labels) (sym same) c.loop-done.invariant in
+    let front : drop i parts ≡ part ∷ drop (i + 1) parts = drop_more parts i part c.loop-done-test.true ∙ ap (λ f. f ∷ drop (i + 1) parts) (sym c.index-parts-done.is) in
+    so_far_step (g.P.Coder.cell_of c.args.coder.now) c.args.sources.now.consts part parts (drop (i + 1) parts) c.args.network.now c.equated_atom.new.network c.compile_at.new.network c.args.at.now.node c.args.at.now.labels
+    c.loop-done.now.node c.loop-done.now.labels c.in_ok-now-in-None.now.node c.in_ok-now-in-None.now.labels
+    (subst (λ rest. AllSoFar g.P.Cell.Ord.cmp g.P.Cell.Cell.int_of (g.P.Coder.cell_of c.args.coder.now) c.args.sources.now.consts parts rest c.args.network.now c.equated_atom.new.network c.args.at.now.node c.args.at.now.labels c.loop-done.now.node c.loop-done.now.labels) front so)
+    c.in_ok-now-in-None.ensures
 
 pub all_parts-returns : goal.all_parts-returns
 all_parts-returns g t c =
-    let left : drop c.loop-part.part-index c.args.parts.now ≡ [] = drop_all c.loop-part.part-index c.args.parts.now c.loop-part-test.false in
-    so_far_end (g.P.Coder.cell_of c.args.coder.now) c.args.sources.now.consts c.args.parts.now c.args.network.now c.loop-part.network c.args.at.now.node c.args.at.now.labels c.loop-part.now.node c.loop-part.now.labels
-    (subst (λ rest. AllSoFar g.P.Cell.Ord.cmp g.P.Cell.Cell.int_of (g.P.Coder.cell_of c.args.coder.now) c.args.sources.now.consts c.args.parts.now rest c.args.network.now c.loop-part.network c.args.at.now.node c.args.at.now.labels c.loop-part.now.node c.loop-part.now.labels)
-    left c.loop-part.invariant)
+    let left : drop c.loop-done.done c.args.parts.now ≡ [] = drop_all c.loop-done.done c.args.parts.now c.loop-done-test.false in
+    so_far_end (g.P.Coder.cell_of c.args.coder.now) c.args.sources.now.consts c.args.parts.now c.args.network.now c.loop-done.network c.args.at.now.node c.args.at.now.labels c.loop-done.now.node c.loop-done.now.labels
+    (subst (λ rest. AllSoFar g.P.Cell.Ord.cmp g.P.Cell.Cell.int_of (g.P.Coder.cell_of c.args.coder.now) c.args.sources.now.consts c.args.parts.now rest c.args.network.now c.loop-done.network c.args.at.now.node c.args.at.now.labels c.loop-done.now.node c.loop-done.now.labels) left c.loop-done.invariant)
 
 -- ---- one form or another
 

@@ -1,4 +1,4 @@
-use Rattle.std.proofs.Common.{◌+◌, ◌*◌, drop, take, sum_by}
+use Rattle.std.proofs.Common.{◌+◌, ◌-◌, ◌*◌, drop, take, length, sum_by}
 use Rattle.dbn_formula.proofs.Weights.{weight}
 use Rattle.dbn_plan.proofs.StepLaws.{AllSoFar}
 use Rattle.dbn_plan.proofs.MadeLaws.{OrSoFar}
@@ -25,9 +25,12 @@ decreases-any_of g l = 2 * sum_by weight l.parts.now + 2
 abbrev pub decreases-some_part : goal.decreases-some_part
 decreases-some_part g l = 2 * sum_by weight l.parts.now + 3
 
-abbrev pub invariant-all_parts-loop-part : goal.invariant-all_parts-loop-part
-invariant-all_parts-loop-part g l =
-    AllSoFar g.P.Cell.Ord.cmp g.P.Cell.Cell.int_of (g.P.Coder.cell_of l.coder) l.sources.consts l.parts (drop l.part-index l.parts) l.fn.network l.network l.at.node l.at.labels l.now.node l.now.labels
+abbrev pub invariant-all_parts-loop-done : goal.invariant-all_parts-loop-done
+invariant-all_parts-loop-done g l =
+    AllSoFar g.P.Cell.Ord.cmp g.P.Cell.Cell.int_of (g.P.Coder.cell_of l.coder) l.sources.consts l.parts (drop l.done l.parts) l.fn.network l.network l.at.node l.at.labels l.now.node l.now.labels
+
+abbrev pub decreases-all_parts-loop-done : goal.decreases-all_parts-loop-done
+decreases-all_parts-loop-done g l = length l.parts - l.done
 
 abbrev pub invariant-any_of-loop-i : goal.invariant-any_of-loop-i
 invariant-any_of-loop-i g l =
